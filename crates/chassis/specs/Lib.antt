@@ -1,0 +1,5 @@
+pub mod Parts
+pub mod Log
+pub mod Run
+pub mod Ledger
+pub mod Scenarios

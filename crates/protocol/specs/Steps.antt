@@ -1,0 +1,306 @@
+-- THE WHOLE INVARIANT, of a chassis and the ledger of one counter q, and the two moves that every accepted step is made of:
+--     issued-ok       a card makes a message and takes it itself (count, clear)
+--     delivered-ok    a card takes the next message of another card
+-- Assumes nothing.
+use Prim.Native.Nat.{ℕ, zero, suc, _+_, _≤_, _<_}
+use mathlib.Core.Path.{_≡_, refl, sym, ap, ap₂, _∙_}
+use mathlib.Core.Bool.{Bool, true, false, cond}
+use mathlib.Core.List.{List, [], _∷_, _++_, map, map-append}
+use native.Mathlib.Nat.{le-refl}
+use native.Mathlib.Omega.{arith}
+use lib.ListN.{length, getD, drop, length-append, List·getD-map}
+use lib.Seq.{drop-cons, getD-append-seam}
+use Rattle.protocol.specs.Cases.{by-place}
+use Rattle.protocol.specs.Lists.{places-more}
+use Rattle.protocol.specs.Tables.{put, put-same, put-other, put-at, put-same-row, put-other-row, put-cases}
+use Rattle.protocol.specs.Marks.{Mark, no-messages}
+use Rattle.protocol.specs.Names.{Name, join}
+use Rattle.protocol.specs.NameLaws.{Prefixes, Prefixes-empty}
+use Rattle.protocol.specs.Ledger.{Item, Ledger, applied, sent, made, handed, next-item, rest-items}
+use Rattle.protocol.specs.Chassis.{Message, increment, clearing, no-message, Replica, taken, Chassis, issued, delivered}
+use Rattle.protocol.specs.Chain.{Note, other, no-note, Target, clr, inc, wire, after, mark-from, mark-at, NoteOk, ValidNotes, OnChain, mark-suc, mark-append, on-chain-more, valid-more}
+use Rattle.protocol.specs.Pairs.{PairOk}
+use Rattle.protocol.specs.Levels.{reach, level, level-from, level-suc, level-append, most-cong, most-raised, row-after-names}
+use Rattle.protocol.specs.Cards.{seen, CardOk, item, TargetsOn, NoteTargetsOn, row-after, card-more, card-taken}
+
+-- what a link has still to hand over: the items of notes h, where k is the mark of the notes before
+unfoldable pub items : ℕ → List Note → Mark → List Item
+items s [] k = []
+items s (t ∷ h) k = item s t k ∷ items s h (after t k)
+
+abbrev pub waiting : ℕ → List Note → ℕ → List Item
+waiting s h n = items s (drop n h) (mark-at n h)
+
+pub record Ok (r q : ℕ) (st : Chassis) (l : Ledger) : Type 0 where
+  -- each card's messages, as notes; how far each card has each origin's names cancelled
+  pub notes : ℕ → List Note
+  pub row : ℕ → ℕ → Mark
+  pub logs : (j : ℕ) → st .log j ≡ map (wire q) (notes j)
+  pub valid : (j : ℕ) → ValidNotes q j (notes j)
+  pub targets : (j n : ℕ) → n < length (notes j) → NoteTargetsOn notes (getD (notes j) n no-note)
+  pub cards : (i : ℕ) → CardOk q notes (row i) (st .replica i) (l .received i) (l .cancelled i)
+  pub own : (i : ℕ) → st .replica i .N i ≡ length (notes i)
+  pub queues : (s i : ℕ) → (i ≡ s → ⊥) → l .queue s i ≡ waiting s (notes s) (st .replica i .N s)
+  pub outside : (j : ℕ) → r ≤ j → notes j ≡ []
+  -- names are cancelled as far as the received notes say, and no further
+  pub levels : (i j : ℕ) → row i j .names ≡ level r notes (st .replica i .N) j
+
+-- ---- the waiting items, when a message is made and when one is handed over
+
+items-append : (s : ℕ) (h : List Note) (t : Note) (k : Mark) → items s (h ++ t ∷ []) k ≡ items s h k ++ item s t (mark-from (length h) h k) ∷ []
+unfolding items mark-from
+items-append s [] t k = refl
+items-append s (u ∷ h) t k = ap {B = List Item} (λ its. item s u k ∷ its) (items-append s h t (after u k))
+
+waiting-from : (s n : ℕ) (h : List Note) (t : Note) (k : Mark) → n ≤ length h
+    → items s (drop n (h ++ t ∷ [])) (mark-from n (h ++ t ∷ []) k) ≡ items s (drop n h) (mark-from n h k) ++ item s t (mark-from (length h) h k) ∷ []
+unfolding mark-from
+waiting-from s zero h t k l = items-append s h t k
+waiting-from s (suc n) [] t k l = absurd (omega arith)
+waiting-from s (suc n) (u ∷ h) t k l = waiting-from s n h t (after u k) (omega arith)
+
+waiting-next : (s n : ℕ) (h : List Note) → n < length h → waiting s h n ≡ item s (getD h n no-note) (mark-at n h) ∷ waiting s h (suc n)
+unfolding items
+waiting-next s n h l = rw (drop-cons h n no-note l, mark-suc n h l)
+
+-- ---- notes, when one is made
+
+targets-more : (notes : ℕ → List Note) (s : ℕ) (t : Note) (ts : List Target) → TargetsOn notes ts → TargetsOn (put s (notes s ++ t ∷ []) notes) ts
+targets-more notes s t [] o = tt
+targets-more notes s t (u ∷ ts) o = (
+  put-cases (λ (h : List Note). OnChain h (u .mark)) s (notes s ++ t ∷ []) notes (u .card)
+      (λ e. on-chain-more (notes s) t (u .mark) (rw e at (o .0))) (λ d. o .0),
+  targets-more notes s t ts (o .1),
+)
+
+note-targets-more : (notes : ℕ → List Note) (s : ℕ) (t u : Note) → NoteTargetsOn notes u → NoteTargetsOn (put s (notes s ++ t ∷ []) notes) u
+note-targets-more notes s t (other m) o = tt
+note-targets-more notes s t (inc w p start) o = tt
+note-targets-more notes s t (clr ts) o = targets-more notes s t ts o
+
+-- N rises by one, whatever is taken
+pub taken-N : (s : ℕ) (m : Message) (b : Replica) (j : ℕ) → taken s m b .N j ≡ put s (suc (b .N s)) (b .N) j
+unfolding taken
+taken-N s (increment q w p start) b j = refl
+taken-N s (clearing q ts) b j = refl
+
+-- ---- a card makes a message, and takes it
+
+abbrev more-notes : (ℕ → List Note) → ℕ → Note → ℕ → List Note
+more-notes notes i t = put i (notes i ++ t ∷ []) notes
+
+module _ (r q : ℕ) (st : Chassis) (l : Ledger) (k : Ok r q st l) (i : ℕ) (t : Note)
+    (o : NoteOk q i t (seen (k .notes) (st .replica i) i)) (on : NoteTargetsOn (k .notes) t) where
+  -- the notes, with the new one
+  notes⁺ : more-notes (k .notes) i t i ≡ k .notes i ++ t ∷ []
+  notes⁺ = put-same i (k .notes i ++ t ∷ []) (k .notes)
+
+  logs⁺ : (j : ℕ) → put i (st .log i ++ wire q t ∷ []) (st .log) j ≡ map (wire q) (more-notes (k .notes) i t j)
+  logs⁺ j =
+      by-place j i
+      (λ e. rw e (simp (put-same, k .logs i) (sym (map-append (wire q) (k .notes i) (t ∷ [])))))
+      (λ d. simp put-other (k .logs j))
+
+  -- card i has all its own notes
+  own-mark : seen (k .notes) (st .replica i) i ≡ mark-at (length (k .notes i)) (k .notes i)
+  own-mark = ap (λ (n : ℕ). mark-at n (k .notes i)) (k .own i)
+
+  valid⁺ : (j : ℕ) → ValidNotes q j (more-notes (k .notes) i t j)
+  valid⁺ j =
+      by-place j i
+      (λ e. rw (e, notes⁺) (valid-more q i (k .notes i) (k .valid i) t (rw own-mark at o)))
+      (λ d. rw put-other (k .valid j))
+
+  targets⁺ : (j n : ℕ) → n < length (more-notes (k .notes) i t j) → NoteTargetsOn (more-notes (k .notes) i t) (getD (more-notes (k .notes) i t j) n no-note)
+  targets⁺ j =
+      put-cases (λ (h : List Note). (n : ℕ) → n < length h → NoteTargetsOn (more-notes (k .notes) i t) (getD h n no-note))
+      i (k .notes i ++ t ∷ []) (k .notes) j
+      (λ e. places-more (NoteTargetsOn (more-notes (k .notes) i t)) no-note (k .notes i) t
+      (λ n m. note-targets-more (k .notes) i t (getD (k .notes i) n no-note) (k .targets i n m)) (note-targets-more (k .notes) i t t on))
+      (λ d n m. note-targets-more (k .notes) i t (getD (k .notes j) n no-note) (k .targets j n m))
+
+  -- every card, before the maker takes its message; and the maker, when it has
+  cards-more : (j : ℕ) → CardOk q (more-notes (k .notes) i t) (k .row j) (st .replica j) (l .received j) (l .cancelled j)
+  cards-more j = card-more q (k .notes) (k .row j) (st .replica j) (l .received j) (l .cancelled j) i t (k .cards j)
+
+  same-mark : seen (more-notes (k .notes) i t) (st .replica i) i ≡ seen (k .notes) (st .replica i) i
+  same-mark = rw notes⁺ (mark-append (st .replica i .N i) (k .notes i) t (k .cards i .pairs i .within))
+
+  maker : CardOk q (more-notes (k .notes) i t) (row-after i t (seen (k .notes) (st .replica i) i) (k .row i)) (taken i (wire q t) (st .replica i))
+      (join (item i t (seen (k .notes) (st .replica i) i) .adds) (l .received i)) (join (item i t (seen (k .notes) (st .replica i) i) .cancels) (l .cancelled i))
+  maker =
+      rw same-mark at
+      (card-taken q (more-notes (k .notes) i t) valid⁺ i (k .row i) (st .replica i) (l .received i) (l .cancelled i) (cards-more i)
+      (rw (notes⁺, length-append (k .notes i) (t ∷ []), k .own i) (omega arith))
+      t (rw (notes⁺, k .own i) (getD-append-seam (k .notes i) t [] no-note))
+      (note-targets-more (k .notes) i t t on))
+
+  cards⁺ : (j : ℕ) → CardOk q (more-notes (k .notes) i t)
+      (put i (row-after i t (seen (k .notes) (st .replica i) i) (k .row i)) (k .row) j)
+      (put i (taken i (wire q t) (st .replica i)) (st .replica) j)
+      (put i (join (item i t (seen (k .notes) (st .replica i) i) .adds) (l .received i)) (l .received) j)
+      (put i (join (item i t (seen (k .notes) (st .replica i) i) .cancels) (l .cancelled i)) (l .cancelled) j)
+  cards⁺ j = by-place j i (λ e. simp put-at maker) (λ d. simp put-other (cards-more j))
+
+  own⁺ : (j : ℕ) → put i (taken i (wire q t) (st .replica i)) (st .replica) j .N j ≡ length (more-notes (k .notes) i t j)
+  own⁺ j =
+      by-place j i
+      (λ e. rw e (simp (put-same, taken-N, length-append, k .own i) (omega arith)))
+      (λ d. simp put-other (k .own j))
+
+  -- the links that leave i get the item; the others stay, and so does what i has received of other cards
+  queues⁺ : (s j : ℕ) → (j ≡ s → ⊥)
+      → put i (λ n. l .queue i n ++ item i t (seen (k .notes) (st .replica i) i) ∷ []) (l .queue) s j
+      ≡ waiting s (more-notes (k .notes) i t s) (put i (taken i (wire q t) (st .replica i)) (st .replica) j .N s)
+  queues⁺ s j apart =
+      by-place s i
+      (λ e. by-place j i
+      (λ f. absurd (apart (f ∙ sym e)))
+      (λ f. rw e (simp (put-same-row, put-same, put-other, k .queues i j f, own-mark)
+      (sym (waiting-from i (st .replica j .N i) (k .notes i) t no-messages (k .cards j .pairs i .within))))))
+      (λ d. by-place j i
+      (λ f. simp (put-other-row, put-at, taken-N, put-other) (rw (← f) (k .queues s j apart)))
+      (λ f. simp (put-other-row, put-other) (k .queues s j apart)))
+
+  levels⁺ : i < r → (n j : ℕ)
+      → put i (row-after i t (seen (k .notes) (st .replica i) i) (k .row i)) (k .row) n j .names
+      ≡ level r (more-notes (k .notes) i t) (put i (taken i (wire q t) (st .replica i)) (st .replica) n .N) j
+  levels⁺ below n j =
+      by-place n i
+      (λ e.
+      rw (
+        e,
+        put-same i (row-after i t (seen (k .notes) (st .replica i) i) (k .row i)) (k .row),
+        put-same i (taken i (wire q t) (st .replica i)) (st .replica),
+        row-after-names i t (seen (k .notes) (st .replica i) i) (k .row i) j,
+        k .levels i j,
+      )
+      (sym (most-raised r i (reach i t (seen (k .notes) (st .replica i) i) j) _ _ below
+      (simp (taken-N, put-same, k .own i)
+      (level-suc i (length (k .notes i)) (k .notes i ++ t ∷ []) no-messages j (rw (length-append (k .notes i) (t ∷ [])) (omega arith))
+      ∙ simp (getD-append-seam, level-append i (length (k .notes i)) (k .notes i) t no-messages j (le-refl _), mark-append (length (k .notes i)) (k .notes i) t (le-refl _))))
+      (λ m d. simp (taken-N, put-other)))))
+      (λ d.
+      simp (put-other-row, put-other)
+      (k .levels n j
+      ∙ most-cong r _ _ (λ s m.
+      by-place s i
+      (λ e. rw (e, notes⁺) (sym (level-append i (st .replica n .N i) (k .notes i) t no-messages j (k .cards n .pairs i .within))))
+      (λ f. rw put-other))))
+
+  issued-here : i < r → Ok r q (issued i (wire q t) st) (made i (item i t (seen (k .notes) (st .replica i) i)) l)
+  unfolding issued made applied sent
+  issued-here below = record {
+    notes = more-notes (k .notes) i t;
+    row = put i (row-after i t (seen (k .notes) (st .replica i) i) (k .row i)) (k .row);
+    logs = logs⁺;
+    valid = valid⁺;
+    targets = targets⁺;
+    cards = cards⁺;
+    own = own⁺;
+    queues = queues⁺;
+    outside = λ j m. rw (put-other i (k .notes i ++ t ∷ []) (k .notes) j (λ e. omega arith)) (k .outside j m);
+    levels = levels⁺ below;
+  }
+
+-- as the steps use it: the message and the item are the note's
+pub issued-ok : (r q : ℕ) (st : Chassis) (l : Ledger) (k : Ok r q st l) (i : ℕ) (m : Message) (it : Item) (t : Note) → i < r
+    → m ≡ wire q t → it ≡ item i t (seen (k .notes) (st .replica i) i)
+    → NoteOk q i t (seen (k .notes) (st .replica i) i) → NoteTargetsOn (k .notes) t
+    → Ok r q (issued i m st) (made i it l)
+issued-ok r q st l k i m it t below e f o on = rw (e, f) (issued-here r q st l k i t o on below)
+
+-- ---- a card takes the next message of another card
+
+module _ (r q : ℕ) (st : Chassis) (l : Ledger) (k : Ok r q st l) (i s : ℕ) (apart : i ≡ s → ⊥) (waits : st .replica i .N s < length (k .notes s)) where
+  -- the note whose turn it is
+  turn : Note
+  turn = getD (k .notes s) (st .replica i .N s) no-note
+
+  its-message : getD (st .log s) (st .replica i .N s) no-message ≡ wire q turn
+  unfolding turn
+  its-message = rw (k .logs s) (List·getD-map (wire q) (k .notes s) (st .replica i .N s) no-note)
+
+  link : l .queue s i ≡ item s turn (seen (k .notes) (st .replica i) s) ∷ waiting s (k .notes s) (suc (st .replica i .N s))
+  unfolding turn
+  link = k .queues s i apart ∙ waiting-next s (st .replica i .N s) (k .notes s) waits
+
+  its-item : next-item (l .queue s i) ≡ item s turn (seen (k .notes) (st .replica i) s)
+  unfolding next-item
+  its-item = ap next-item link
+
+  its-rest : rest-items (l .queue s i) ≡ waiting s (k .notes s) (suc (st .replica i .N s))
+  unfolding rest-items
+  its-rest = ap rest-items link
+
+  taker : CardOk q (k .notes) (row-after s turn (seen (k .notes) (st .replica i) s) (k .row i)) (taken s (wire q turn) (st .replica i))
+      (join (item s turn (seen (k .notes) (st .replica i) s) .adds) (l .received i)) (join (item s turn (seen (k .notes) (st .replica i) s) .cancels) (l .cancelled i))
+  unfolding turn
+  taker =
+      card-taken q (k .notes) (k .valid) s (k .row i) (st .replica i) (l .received i) (l .cancelled i) (k .cards i) waits
+      (getD (k .notes s) (st .replica i .N s) no-note) refl (k .targets s (st .replica i .N s) waits)
+
+  -- after the step, with the message and the item as the chassis and the ledger find them
+  replica′ : ℕ → Replica
+  replica′ = put i (taken s (getD (st .log s) (st .replica i .N s) no-message) (st .replica i)) (st .replica)
+
+  cards′ : (j : ℕ) → CardOk q (k .notes) (put i (row-after s turn (seen (k .notes) (st .replica i) s) (k .row i)) (k .row) j) (replica′ j)
+      (put i (join (next-item (l .queue s i) .adds) (l .received i)) (l .received) j)
+      (put i (join (next-item (l .queue s i) .cancels) (l .cancelled i)) (l .cancelled) j)
+  unfolding replica′
+  cards′ j = rw (its-message, its-item) (by-place j i (λ e. simp put-at taker) (λ d. simp put-other (k .cards j)))
+
+  -- N, at the taker and elsewhere
+  N-here : (j : ℕ) → replica′ i .N j ≡ put s (suc (st .replica i .N s)) (st .replica i .N) j
+  unfolding replica′
+  N-here j = simp (put-same, taken-N)
+
+  replica-there : (j : ℕ) → (j ≡ i → ⊥) → replica′ j ≡ st .replica j
+  unfolding replica′
+  replica-there j d = rw put-other
+
+  own′ : (j : ℕ) → replica′ j .N j ≡ length (k .notes j)
+  own′ j = by-place j i (λ e. rw e (simp (N-here, put-other) (k .own i))) (λ d. simp replica-there (k .own j))
+
+  queues′ : (o j : ℕ) → (j ≡ o → ⊥)
+      → put s (put i (rest-items (l .queue s i)) (l .queue s)) (l .queue) o j ≡ waiting o (k .notes o) (replica′ j .N o)
+  queues′ o j far =
+      by-place o s
+      (λ e. by-place j i
+      (λ f. rw (e, f) (simp (put-same-row, put-same, N-here) its-rest))
+      (λ f. rw e (simp (put-same-row, put-other, replica-there) (k .queues s j (λ c. far (c ∙ sym e))))))
+      (λ d. by-place j i
+      (λ f. rw f (simp (put-other-row, N-here, put-other) (k .queues o i (λ c. far (f ∙ c)))))
+      (λ f. simp (put-other-row, replica-there) (k .queues o j far)))
+
+  levels′ : s < r → (n j : ℕ)
+      → put i (row-after s turn (seen (k .notes) (st .replica i) s) (k .row i)) (k .row) n j .names ≡ level r (k .notes) (replica′ n .N) j
+  unfolding turn
+  levels′ below n j =
+      by-place n i
+      (λ e.
+      rw (
+        e,
+        put-same i (row-after s turn (seen (k .notes) (st .replica i) s) (k .row i)) (k .row),
+        row-after-names s turn (seen (k .notes) (st .replica i) s) (k .row i) j,
+        k .levels i j,
+      )
+      (sym (most-raised r s (reach s turn (seen (k .notes) (st .replica i) s) j) _ _ below
+      (simp (N-here, put-same) (level-suc s (st .replica i .N s) (k .notes s) no-messages j waits))
+      (λ m d. simp (N-here, put-other)))))
+      (λ d. simp (put-other-row, replica-there) (k .levels n j))
+
+  pub delivered-ok : s < r → Ok r q (delivered i s st) (handed i s l)
+  unfolding delivered handed applied replica′
+  delivered-ok below = record {
+    notes = k .notes;
+    row = put i (row-after s turn (seen (k .notes) (st .replica i) s) (k .row i)) (k .row);
+    logs = k .logs;
+    valid = k .valid;
+    targets = k .targets;
+    cards = cards′;
+    own = own′;
+    queues = queues′;
+    outside = k .outside;
+    levels = levels′ below;
+  }

@@ -1,0 +1,173 @@
+-- STORES: a replica that is kept in words. A store has accessors and setters, and nine laws; no offset appears here, so a layout with more header
+-- words, or with rows found by key, is another store and no other proof. The calls of a card, written over the accessors, do to the words what
+-- `Chassis` does to the replica that the words show. Assumes nothing.
+use Prim.Native.Nat.{ℕ, zero, suc, _+_, _-_, _^_, _≤_, _<_}
+use mathlib.Core.Path.{_≡_, refl, sym, ap, ap₂, _∙_}
+use mathlib.Core.Bool.{Bool, true, false, cond}
+use mathlib.Core.List.{List, [], _∷_, _++_}
+use native.Mathlib.Omega.{arith}
+use lib.Dec.{eqb, ltb}
+use Rattle.protocol.specs.Cases.{by-place}
+use Rattle.protocol.specs.Tables.{put, put-same, put-other, put-at, put-same-row, put-other-row, sum-cong, bits}
+use Rattle.protocol.specs.Entry.{Entry, absent, present, incremented, cleared, count-starts, count-p}
+use Rattle.protocol.specs.Chassis.{Message, increment, clearing, ClearEntry, Replica, cleared-row, taken, count-message, present-entries, clear-message, read-value, read-holders}
+
+-- A store of replicas for r cards and k counters.
+pub record Store (r k : ℕ) : Type 1 where
+  pub Words : Type 0
+  -- the words are as many as a replica takes
+  pub Fits : Words → Type 0
+  pub entry : Words → ℕ → ℕ → Entry
+  pub C : Words → ℕ → ℕ
+  pub N : Words → ℕ → ℕ
+  pub set-entry : ℕ → ℕ → Entry → Words → Words
+  pub set-C : ℕ → ℕ → Words → Words
+  pub set-N : ℕ → ℕ → Words → Words
+  pub fits-entry : (q j : ℕ) (e : Entry) (ws : Words) → Fits ws → Fits (set-entry q j e ws)
+  pub fits-C : (j v : ℕ) (ws : Words) → Fits ws → Fits (set-C j v ws)
+  pub fits-N : (j v : ℕ) (ws : Words) → Fits ws → Fits (set-N j v ws)
+  -- what each accessor finds after each setter, within the limits
+  pub entry-entry : (q j : ℕ) (e : Entry) (ws : Words) → Fits ws → q < k → j < r → (q′ j′ : ℕ) → q′ < k → j′ < r
+      → entry (set-entry q j e ws) q′ j′ ≡ put q (put j e (entry ws q)) (entry ws) q′ j′
+  pub C-entry : (q j : ℕ) (e : Entry) (ws : Words) → Fits ws → q < k → j < r → (j′ : ℕ) → j′ < r → C (set-entry q j e ws) j′ ≡ C ws j′
+  pub N-entry : (q j : ℕ) (e : Entry) (ws : Words) → Fits ws → q < k → j < r → (j′ : ℕ) → j′ < r → N (set-entry q j e ws) j′ ≡ N ws j′
+  pub entry-C : (j v : ℕ) (ws : Words) → Fits ws → j < r → (q′ j′ : ℕ) → q′ < k → j′ < r → entry (set-C j v ws) q′ j′ ≡ entry ws q′ j′
+  pub C-C : (j v : ℕ) (ws : Words) → Fits ws → j < r → (j′ : ℕ) → j′ < r → C (set-C j v ws) j′ ≡ put j v (C ws) j′
+  pub N-C : (j v : ℕ) (ws : Words) → Fits ws → j < r → (j′ : ℕ) → j′ < r → N (set-C j v ws) j′ ≡ N ws j′
+  pub entry-N : (j v : ℕ) (ws : Words) → Fits ws → j < r → (q′ j′ : ℕ) → q′ < k → j′ < r → entry (set-N j v ws) q′ j′ ≡ entry ws q′ j′
+  pub C-N : (j v : ℕ) (ws : Words) → Fits ws → j < r → (j′ : ℕ) → j′ < r → C (set-N j v ws) j′ ≡ C ws j′
+  pub N-N : (j v : ℕ) (ws : Words) → Fits ws → j < r → (j′ : ℕ) → j′ < r → N (set-N j v ws) j′ ≡ put j v (N ws) j′
+
+-- The calls, over the accessors of a store.
+module _ (r k : ℕ) (S : Store r k) where
+  unfoldable pub cleared-words : ℕ → List ClearEntry → S .Words → S .Words
+  cleared-words q [] ws = ws
+  cleared-words q (t ∷ ts) ws =
+      cleared-words q ts (S .set-entry q (t .card) (cleared (t .p) (t .c) (S .C ws (t .card)) (S .entry ws q (t .card))) ws)
+
+  unfoldable pub taken-words : ℕ → Message → S .Words → S .Words
+  taken-words s (increment q w p start) ws =
+      S .set-N s (suc (S .N ws s))
+      (S .set-C s (S .C ws s + w) (S .set-entry q s (incremented w p start (S .C ws s) (S .entry ws q s)) ws))
+  taken-words s (clearing q ts) ws = S .set-N s (suc (S .N ws s)) (cleared-words q ts ws)
+
+  -- the replica that the words show, as the calls that only read see it
+  unfoldable pub shown : S .Words → Replica
+  shown ws = record { entry = S .entry ws; C = S .C ws; N = S .N ws }
+
+  -- within the limits, the words show replica b
+  pub record Shows (ws : S .Words) (b : Replica) : Type 0 where
+    pub fits : S .Fits ws
+    pub entries : (q j : ℕ) → q < k → j < r → S .entry ws q j ≡ b .entry q j
+    pub Cs : (j : ℕ) → j < r → S .C ws j ≡ b .C j
+    pub Ns : (j : ℕ) → j < r → S .N ws j ≡ b .N j
+
+-- within the limits, two tables agree when one place of both is changed alike
+put-alike {ℓ} : {A : Type ℓ} (n s : ℕ) (v w : A) (f g : ℕ → A) → v ≡ w → ((j : ℕ) → j < n → f j ≡ g j) → (j : ℕ) → j < n → put s v f j ≡ put s w g j
+put-alike n s v w f g e h j l = by-place j s (λ c. simp put-at e) (λ d. simp put-other (h j l))
+
+put-alike-row {ℓ} : {A : Type ℓ} (n m q : ℕ) (v w : ℕ → A) (f g : ℕ → ℕ → A) → ((j : ℕ) → j < m → v j ≡ w j) → ((i j : ℕ) → i < n → j < m → f i j ≡ g i j)
+    → (i j : ℕ) → i < n → j < m → put q v f i j ≡ put q w g i j
+put-alike-row n m q v w f g e h i j l o = by-place i q (λ c. rw c (simp put-same-row (e j o))) (λ d. simp put-other-row (h i j l o))
+
+-- the cards of a clear's entries are below r
+abbrev pub CardsBelow : ℕ → List ClearEntry → Type 0
+CardsBelow r [] = Unit {0}
+CardsBelow r (t ∷ ts) = (t .card < r) × CardsBelow r ts
+
+abbrev pub InLimits : ℕ → ℕ → Message → Type 0
+InLimits r k (increment q w p start) = q < k
+InLimits r k (clearing q ts) = (q < k) × CardsBelow r ts
+
+module _ (r k : ℕ) (S : Store r k) where
+  -- one entry set
+  entry-set : (q j : ℕ) (e e′ : Entry) (ws : S .Words) (b : Replica) → q < k → j < r → e ≡ e′ → Shows r k S ws b
+      → Shows r k S (S .set-entry q j e ws) (record { entry = put q (put j e′ (b .entry q)) (b .entry); C = b .C; N = b .N })
+  entry-set q j e e′ ws b hq hj same-e h = record {
+    fits = S .fits-entry q j e ws (h .fits);
+    entries = λ q′ j′ a c.
+        S .entry-entry q j e ws (h .fits) hq hj q′ j′ a c
+        ∙ put-alike-row k r q (put j e (S .entry ws q)) (put j e′ (b .entry q)) (S .entry ws) (b .entry)
+        (put-alike r j e e′ (S .entry ws q) (b .entry q) same-e (λ i l. h .entries q i hq l)) (h .entries) q′ j′ a c;
+    Cs = λ j′ c. S .C-entry q j e ws (h .fits) hq hj j′ c ∙ h .Cs j′ c;
+    Ns = λ j′ c. S .N-entry q j e ws (h .fits) hq hj j′ c ∙ h .Ns j′ c;
+  }
+
+  C-set : (j v v′ : ℕ) (ws : S .Words) (b : Replica) → j < r → v ≡ v′ → Shows r k S ws b
+      → Shows r k S (S .set-C j v ws) (record { entry = b .entry; C = put j v′ (b .C); N = b .N })
+  C-set j v v′ ws b hj e h = record {
+    fits = S .fits-C j v ws (h .fits);
+    entries = λ q′ j′ a c. S .entry-C j v ws (h .fits) hj q′ j′ a c ∙ h .entries q′ j′ a c;
+    Cs = λ j′ c. S .C-C j v ws (h .fits) hj j′ c ∙ put-alike r j v v′ (S .C ws) (b .C) e (h .Cs) j′ c;
+    Ns = λ j′ c. S .N-C j v ws (h .fits) hj j′ c ∙ h .Ns j′ c;
+  }
+
+  N-set : (j v v′ : ℕ) (ws : S .Words) (b : Replica) → j < r → v ≡ v′ → Shows r k S ws b
+      → Shows r k S (S .set-N j v ws) (record { entry = b .entry; C = b .C; N = put j v′ (b .N) })
+  N-set j v v′ ws b hj e h = record {
+    fits = S .fits-N j v ws (h .fits);
+    entries = λ q′ j′ a c. S .entry-N j v ws (h .fits) hj q′ j′ a c ∙ h .entries q′ j′ a c;
+    Cs = λ j′ c. S .C-N j v ws (h .fits) hj j′ c ∙ h .Cs j′ c;
+    Ns = λ j′ c. S .N-N j v ws (h .fits) hj j′ c ∙ put-alike r j v v′ (S .N ws) (b .N) e (h .Ns) j′ c;
+  }
+
+  shows-alike : (ws : S .Words) (b b′ : Replica) → ((q j : ℕ) → b .entry q j ≡ b′ .entry q j) → ((j : ℕ) → b .C j ≡ b′ .C j) → ((j : ℕ) → b .N j ≡ b′ .N j)
+      → Shows r k S ws b → Shows r k S ws b′
+  shows-alike ws b b′ e c n h = record {
+    fits = h .fits;
+    entries = λ q j x y. h .entries q j x y ∙ e q j;
+    Cs = λ j y. h .Cs j y ∙ c j;
+    Ns = λ j y. h .Ns j y ∙ n j;
+  }
+
+  -- the entries of a clear
+  cleared-shows : (q : ℕ) (ts : List ClearEntry) (ws : S .Words) (b : Replica) → q < k → CardsBelow r ts → Shows r k S ws b
+      → Shows r k S (cleared-words r k S q ts ws) (record { entry = put q (cleared-row (b .C) ts (b .entry q)) (b .entry); C = b .C; N = b .N })
+  unfolding cleared-words cleared-row
+  cleared-shows q [] ws b hq on h =
+      shows-alike ws b _ (λ i j. by-place i q (λ e. rw (e, put-same-row q (b .entry q) (b .entry) j)) (λ d. rw put-other-row)) (λ j. refl) (λ j. refl) h
+  cleared-shows q (t ∷ ts) ws b hq on h =
+      shows-alike _ _ _ same-rows (λ j. refl) (λ j. refl)
+      (cleared-shows q ts _ _ hq (on .1)
+      (entry-set q (t .card) _ (cleared (t .p) (t .c) (b .C (t .card)) (b .entry q (t .card))) ws b hq (on .0)
+      (rw (h .Cs (t .card) (on .0), h .entries q (t .card) hq (on .0))) h))
+    where
+      row₁ : ℕ → Entry
+      row₁ = put (t .card) (cleared (t .p) (t .c) (b .C (t .card)) (b .entry q (t .card))) (b .entry q)
+
+      same-rows : (i j : ℕ) → put q (cleared-row (b .C) ts (put q row₁ (b .entry) q)) (put q row₁ (b .entry)) i j ≡ put q (cleared-row (b .C) ts row₁) (b .entry) i j
+      same-rows i j = by-place i q (λ e. rw (e, put-same q row₁ (b .entry)) (simp put-same-row)) (λ d. simp put-other-row)
+
+  -- TAKE, on the words
+  pub taken-shows : (s : ℕ) (m : Message) (ws : S .Words) (b : Replica) → s < r → InLimits r k m → Shows r k S ws b
+      → Shows r k S (taken-words r k S s m ws) (taken s m b)
+  unfolding taken-words taken
+  taken-shows s (increment q w p start) ws b hs hq h =
+      N-set s (suc (S .N ws s)) (suc (b .N s)) _ _ hs (ap suc (h .Ns s hs))
+      (C-set s (S .C ws s + w) (b .C s + w) _ _ hs (ap (λ (x : ℕ). x + w) (h .Cs s hs))
+      (entry-set q s _ _ ws b hq hs (rw (h .Cs s hs, h .entries q s hq hs)) h))
+  taken-shows s (clearing q ts) ws b hs (hq, on) h =
+      N-set s (suc (S .N ws s)) (suc (b .N s)) _ _ hs (ap suc (h .Ns s hs)) (cleared-shows q ts ws b hq on h)
+
+  -- COUNT, CLEAR and READ see the replica that the words show
+  pub count-shown : (i q w : ℕ) (ws : S .Words) (b : Replica) → i < r → q < k → Shows r k S ws b
+      → count-message i q w (shown r k S ws) ≡ count-message i q w b
+  unfolding count-message shown
+  count-shown i q w ws b hi hq h = rw (h .Cs i hi, h .entries q i hq hi)
+
+  present-shown : (n : ℕ) (f g : ℕ → Entry) → ((j : ℕ) → j < n → f j ≡ g j) → present-entries n f ≡ present-entries n g
+  unfolding present-entries
+  present-shown zero f g h = refl
+  present-shown (suc n) f g h = rw (present-shown n f g (λ j l. h j (omega arith)), h n (omega arith))
+
+  pub clear-shown : (q : ℕ) (ws : S .Words) (b : Replica) → q < k → Shows r k S ws b → clear-message r q (shown r k S ws) ≡ clear-message r q b
+  unfolding clear-message shown
+  clear-shown q ws b hq h = ap (clearing q) (present-shown r (S .entry ws q) (b .entry q) (λ j l. h .entries q j hq l))
+
+  pub value-shown : (q : ℕ) (ws : S .Words) (b : Replica) → q < k → Shows r k S ws b → read-value r q (shown r k S ws) ≡ read-value r q b
+  unfolding read-value shown
+  value-shown q ws b hq h = sum-cong r _ _ (λ j l. ap (λ (e : Entry). e .p - e .n) (h .entries q j hq l))
+
+  pub holders-shown : (q : ℕ) (ws : S .Words) (b : Replica) → q < k → Shows r k S ws b → read-holders r q (shown r k S ws) ≡ read-holders r q b
+  unfolding read-holders shown bits
+  holders-shown q ws b hq h = sum-cong r _ _ (λ j l. ap (λ (e : Entry). cond (present e) (2 ^ j) 0) (h .entries q j hq l))

@@ -1,0 +1,163 @@
+-- DEMAND 3. After any list of steps from a fresh chassis, reading any counter on any card gives the value and the holding cards of that
+-- counter's ledger, which was fed the steps and which of them were accepted. Assumes nothing.
+use Prim.Native.Nat.{ℕ, zero, suc, _+_, _-_, _*_, _^_, _≤_, _<_}
+use mathlib.Core.Path.{_≡_, refl, sym, ap, _∙_}
+use mathlib.Core.Bool.{Bool, true, false, not, cond, _&&_}
+use mathlib.Core.List.{List, [], _∷_, _++_, map}
+use native.Mathlib.Omega.{arith}
+use lib.Dec.{eqb, ltb}
+use lib.ListN.{length}
+use borrow.Author.Tests.{ltb-true, eqb-false, eq-eqb, ne-eqb, not-true}
+use Rattle.protocol.specs.Cases.{by-place, by-test, and-left, and-right}
+use Rattle.protocol.specs.Tables.{sum-cong, bits}
+use Rattle.protocol.specs.Entry.{absent}
+use Rattle.protocol.specs.Marks.{Mark, no-messages}
+use Rattle.protocol.specs.EntryLaws.{EntryOk, even, reads-value}
+use Rattle.protocol.specs.NameLaws.{Prefixes, Prefixes-empty, tally-is}
+use Rattle.protocol.specs.Ledger.{Step, count, clear, deliver, Ledger, nothing, empty-ledger, made, handed, entered, fed, kept, ledger-value, ledger-holders, count-item, clear-item}
+use Rattle.protocol.specs.Chassis.{Message, increment, clearing, Replica, Chassis, fresh-chassis, count-message, clear-message, issued, delivered, done, enabled, Offer, accepted, stepped, run, answers, read-value, read-holders}
+use Rattle.protocol.specs.Chain.{Note, other, wire, counter-of, mark-from, mark-at, OnChain}
+use Rattle.protocol.specs.Pairs.{PairOk}
+use Rattle.protocol.specs.Cards.{CardOk}
+use Rattle.protocol.specs.Makers.{count-note, count-sends, count-in-order, count-enters, clear-note, clear-sends, clear-in-order, clear-on, clear-enters, holds-is}
+use Rattle.protocol.specs.Levels.{level, level-from, most}
+use Rattle.protocol.specs.Steps.{Ok, items, issued-ok, delivered-ok}
+
+-- ---- the fresh chassis
+
+fresh-pair : PairOk [] 0 0 no-messages absent
+unfolding mark-from
+fresh-pair = record {
+  within = omega arith;
+  C-is = refl;
+  chain = record { place = 0; within = omega arith; is-mark = refl };
+  covers = omega arith;
+  entry = even refl refl refl refl;
+}
+
+fresh-level : (r j : ℕ) → 0 ≡ level r (λ s. []) (λ s. 0) j
+unfolding most level-from
+fresh-level zero j = refl
+fresh-level (suc r) j = let q = fresh-level r j in omega arith
+
+pub fresh-ok : (r q : ℕ) → Ok r q fresh-chassis empty-ledger
+unfolding mark-from items
+fresh-ok r q = record {
+  notes = λ j. [];
+  row = λ i j. no-messages;
+  logs = λ j. refl;
+  valid = λ j. tt;
+  targets = λ j n l. absurd (omega arith);
+  cards = λ i. record { pairs = λ j. fresh-pair; received-is = Prefixes-empty; cancelled-is = Prefixes-empty };
+  own = λ i. refl;
+  queues = λ s i d. refl;
+  outside = λ j l. refl;
+  levels = λ i j. fresh-level r j;
+}
+
+-- ---- an accepted step
+
+count-counter : (i c w : ℕ) (b : Replica) → counter-of (count-message i c w b) ≡ c
+unfolding count-message
+count-counter i c w b = refl
+
+clear-counter : (r c : ℕ) (b : Replica) → counter-of (clear-message r c b) ≡ c
+unfolding clear-message
+clear-counter r c b = refl
+
+module _ (r q : ℕ) (st : Chassis) (l : Ledger) (k : Ok r q st l) where
+  count-ok : (i c w : ℕ) → i < r → 0 < w → Ok r q (issued i (count-message i c w (st .replica i)) st) (made i (cond (eqb c q) (count-item i w l) nothing) l)
+  count-ok i c w below some =
+      by-place c q
+      (λ e. rw (eq-eqb c q e, e)
+      (issued-ok r q st l k i (count-message i q w (st .replica i)) (count-item i w l) (count-note i q w (st .replica i)) below
+      (count-sends q (k .notes) (k .valid) i (k .row i) (st .replica i) l (k .cards i) (k .own i) w)
+      (count-enters q (k .notes) (k .valid) i (k .row i) (st .replica i) l (k .cards i) (k .own i) w)
+      (count-in-order q (k .notes) (k .valid) i (k .row i) (st .replica i) l (k .cards i) (k .own i) w some)
+      tt))
+      (λ d. rw (ne-eqb c q d)
+      (issued-ok r q st l k i (count-message i c w (st .replica i)) nothing (other (count-message i c w (st .replica i))) below refl refl
+      (λ e. d (sym (count-counter i c w (st .replica i)) ∙ e)) tt))
+
+  clear-ok : (i c : ℕ) → i < r → Ok r q (issued i (clear-message r c (st .replica i)) st) (made i (cond (eqb c q) (clear-item r i l) nothing) l)
+  clear-ok i c below =
+      by-place c q
+      (λ e. rw (eq-eqb c q e, e)
+      (issued-ok r q st l k i (clear-message r q (st .replica i)) (clear-item r i l) (clear-note (k .notes) (k .row i) r q (st .replica i)) below
+      (clear-sends q (k .notes) (k .valid) i (k .row i) (st .replica i) l (k .cards i) r)
+      (clear-enters q (k .notes) (k .valid) i (k .row i) (st .replica i) l (k .cards i) r)
+      (clear-in-order q (k .notes) (k .valid) i (k .row i) (st .replica i) l (k .cards i) (k .own i) r)
+      (clear-on q (k .notes) (k .valid) i (k .row i) (st .replica i) l (k .cards i) r)))
+      (λ d. rw (ne-eqb c q d)
+      (issued-ok r q st l k i (clear-message r c (st .replica i)) nothing (other (clear-message r c (st .replica i))) below refl refl
+      (λ e. d (sym (clear-counter r c (st .replica i)) ∙ e)) tt))
+
+  done-ok : (s : Step) → enabled r s st ≡ true → Ok r q (done r s st) (entered r q s l)
+  unfolding enabled done entered
+  done-ok (count i c w) e = count-ok i c w (ltb-true i r (and-left (ltb i r) (ltb 0 w) e)) (ltb-true 0 w (and-right (ltb i r) (ltb 0 w) e))
+  done-ok (clear i c) e = clear-ok i c (ltb-true i r e)
+  done-ok (deliver i s) e =
+      let e₁ = and-right (ltb i r) _ e in
+      let e₂ = and-right (ltb s r) _ e₁ in
+      let e₃ = not-true (eqb i s) (and-left (not (eqb i s)) _ e₂) in
+      let e₄ = and-right (not (eqb i s)) (ltb (st .replica i .N s) (st .replica s .N s)) e₂ in
+      delivered-ok r q st l k i s (eqb-false i s e₃) (rw (← (k .own s)) (ltb-true (st .replica i .N s) (st .replica s .N s) e₄)) (ltb-true s r (and-left (ltb s r) _ e₁))
+
+-- ---- a list of steps
+
+step-ok : (r q : ℕ) (o : Offer) (st : Chassis) (l : Ledger) → Ok r q st l → Ok r q (stepped r o st) (fed r q (o .step) (accepted r o st) l)
+unfolding stepped fed
+step-ok r q o st l k =
+    by-test (accepted r o st)
+    (λ e. rw e (done-ok r q st l k (o .step) (and-right (o .willing) (enabled r (o .step) st) e)))
+    (λ e. rw e k)
+
+abbrev pub step-of : Offer → Step
+step-of o = o .step
+
+pub run-ok : (r q : ℕ) (os : List Offer) (st : Chassis) (l : Ledger) → Ok r q st l
+    → Ok r q (run r os st) (kept r q (map step-of os) (answers r os st) l)
+unfolding run answers kept
+run-ok r q [] st l k = k
+run-ok r q (o ∷ os) st l k = run-ok r q os (stepped r o st) (fed r q (o .step) (accepted r o st) l) (step-ok r q o st l k)
+
+-- ---- reading
+
+nothing-yet : (n : ℕ) → mark-at n [] .names ≡ 0
+unfolding mark-from
+nothing-yet zero = refl
+nothing-yet (suc n) = refl
+
+module _ (r q : ℕ) (st : Chassis) (l : Ledger) (k : Ok r q st l) (i : ℕ) where
+  value-is : read-value r q (st .replica i) ≡ ledger-value i l
+  unfolding read-value ledger-value
+  value-is =
+      sum-cong r _ _ (λ j below. reads-value _ _ (st .replica i .entry q j) (k .cards i .pairs j .entry))
+      ∙ sym (tally-is r (l .received i) (l .cancelled i) _ _ (k .cards i .received-is) (k .cards i .cancelled-is) none)
+    where
+      none : (j : ℕ) → r ≤ j → mark-at (st .replica i .N j) (k .notes j) .names ≡ 0
+      none j far = rw (k .outside j far) (nothing-yet (st .replica i .N j))
+
+  holders-are : read-holders r q (st .replica i) ≡ ledger-holders r i l
+  unfolding read-holders ledger-holders bits
+  holders-are =
+      sum-cong r _ _ (λ j below. ap (λ (t : Bool). cond t (2 ^ j) 0) (sym (holds-is q (k .notes) (k .valid) i (k .row i) (st .replica i) l (k .cards i) j)))
+
+-- the chassis and the ledger of q after the list
+abbrev pub after-run : ℕ → List Offer → Chassis
+after-run r os = run r os fresh-chassis
+
+abbrev pub ledger-after : ℕ → ℕ → List Offer → Ledger
+ledger-after r q os = kept r q (map step-of os) (answers r os fresh-chassis) empty-ledger
+
+pub record Agrees (r q i : ℕ) (os : List Offer) : Type 0 where
+  pub value : read-value r q (after-run r os .replica i) ≡ ledger-value i (ledger-after r q os)
+  pub holders : read-holders r q (after-run r os .replica i) ≡ ledger-holders r i (ledger-after r q os)
+
+pub ledger-theorem : (r q i : ℕ) (os : List Offer) → Agrees r q i os
+ledger-theorem r q i os =
+    let k = run-ok r q os fresh-chassis empty-ledger (fresh-ok r q) in
+    record {
+      value = value-is r q (after-run r os) (ledger-after r q os) k i;
+      holders = holders-are r q (after-run r os) (ledger-after r q os) k i;
+    }

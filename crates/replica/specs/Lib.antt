@@ -1,0 +1,4 @@
+pub mod Layout
+pub mod Store
+pub mod Calls
+pub mod Examples

@@ -1,0 +1,63 @@
+-- CLAIMS. Worked examples, computed: document 01's first increment, clears of 0, 1 and 16 entries, and bytes that do not read.
+use mathlib.Core.Path.{_≡_, refl}
+use mathlib.Core.List.{List, [], _∷_, _++_}
+use mathlib.Core.Bool.{Bool, true, false}
+use Prim.Native.Nat.{ℕ, zero, suc, _+_}
+use lib.ListN.{length, replicate}
+use Rattle.protocol.specs.declared.ClearEntry.{ClearEntry}
+use Rattle.wire.specs.Number.{number-at, bytes-of}
+use Rattle.wire.specs.Message.{Message, message-bytes, header-bytes, increment-bytes, entry-bytes, entries-bytes, clear-bytes, header-in-range, increment-in-range, clear-in-range, entry-in-range, entries-in-range, unused, in-range, increment-message, clear-message, entries-at, called-length, message-at, reads, read-message, no-message, front-length}
+
+-- "Card 0's first increment on counter 0, in hexadecimal:
+--  00000001 00000001 00000000 0000000000000001 00000000 0000000000000001 00000001."
+pub first : List ℕ
+first =
+    0 ∷ 0 ∷ 0 ∷ 1
+    ∷ 0 ∷ 0 ∷ 0 ∷ 1
+    ∷ 0 ∷ 0 ∷ 0 ∷ 0
+    ∷ 0 ∷ 0 ∷ 0 ∷ 0 ∷ 0 ∷ 0 ∷ 0 ∷ 1
+    ∷ 0 ∷ 0 ∷ 0 ∷ 0
+    ∷ 0 ∷ 0 ∷ 0 ∷ 0 ∷ 0 ∷ 0 ∷ 0 ∷ 1
+    ∷ 0 ∷ 0 ∷ 0 ∷ 1 ∷ []
+
+pub first-written : message-bytes (increment-message 0 1 0 1 1) ≡ first
+unfolding first message-bytes increment-bytes header-bytes bytes-of increment-message
+first-written = refl
+
+pub first-reads : read-message first ≡ record { number = 0; message = increment-message 0 1 0 1 1 }
+unfolding first read-message reads called-length message-at in-range header-in-range increment-in-range entries-in-range unused number-at increment-message
+first-reads = refl
+
+pub first-longer : read-message (first ++ 0 ∷ []) ≡ record { number = 6; message = no-message }
+unfolding first read-message reads called-length message-at in-range header-in-range increment-in-range entries-in-range unused number-at increment-message
+first-longer = refl
+
+pub first-in-front : front-length (first ++ 7 ∷ 7 ∷ []) ≡ 36
+unfolding first front-length reads called-length message-at in-range header-in-range increment-in-range entries-in-range unused number-at increment-message
+first-in-front = refl
+
+-- entries (j, j + 1, j + 2) for the cards below n
+pub entries-to : ℕ → List ClearEntry
+entries-to zero = []
+entries-to (suc n) = entries-to n ++ record { card = n; p = n + 1; c = n + 2 } ∷ []
+
+pub a-clear : ℕ → Message
+a-clear n = clear-message 3 258 63 (entries-to n)
+
+pub clear-of-none : message-bytes (a-clear 0) ≡ 0 ∷ 0 ∷ 0 ∷ 1 ∷ 0 ∷ 0 ∷ 0 ∷ 2 ∷ 0 ∷ 0 ∷ 0 ∷ 3 ∷ 0 ∷ 0 ∷ 0 ∷ 0 ∷ 0 ∷ 0 ∷ 1 ∷ 2 ∷ 0 ∷ 0 ∷ 0 ∷ 63 ∷ 0 ∷ 0 ∷ 0 ∷ 0 ∷ []
+unfolding a-clear entries-to message-bytes clear-bytes header-bytes entries-bytes bytes-of clear-message
+clear-of-none = refl
+
+pub clear-of-one : message-bytes (clear-message 15 1 0 (record { card = 2; p = 3; c = 260 } ∷ []))
+    ≡ 0 ∷ 0 ∷ 0 ∷ 1 ∷ 0 ∷ 0 ∷ 0 ∷ 2 ∷ 0 ∷ 0 ∷ 0 ∷ 15 ∷ 0 ∷ 0 ∷ 0 ∷ 0 ∷ 0 ∷ 0 ∷ 0 ∷ 1 ∷ 0 ∷ 0 ∷ 0 ∷ 0 ∷ 0 ∷ 0 ∷ 0 ∷ 1
+    ∷ 0 ∷ 0 ∷ 0 ∷ 2 ∷ 0 ∷ 0 ∷ 0 ∷ 0 ∷ 0 ∷ 0 ∷ 0 ∷ 3 ∷ 0 ∷ 0 ∷ 0 ∷ 0 ∷ 0 ∷ 0 ∷ 1 ∷ 4 ∷ []
+unfolding message-bytes clear-bytes header-bytes entries-bytes entry-bytes bytes-of clear-message
+clear-of-one = refl
+
+pub clear-of-sixteen : read-message (message-bytes (a-clear 16)) ≡ record { number = 0; message = a-clear 16 }
+unfolding a-clear entries-to message-bytes clear-bytes header-bytes entries-bytes entry-bytes bytes-of clear-message read-message reads called-length message-at in-range header-in-range clear-in-range entry-in-range entries-in-range unused entries-at number-at increment-message
+clear-of-sixteen = refl
+
+pub sixteen-is-348-long : length (message-bytes (a-clear 16)) ≡ 348
+unfolding a-clear entries-to message-bytes clear-bytes header-bytes entries-bytes entry-bytes bytes-of clear-message
+sixteen-is-348-long = refl
