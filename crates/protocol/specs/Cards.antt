@@ -1,8 +1,7 @@
--- ONE CARD: its replica against every origin at once, and its two sets of the ledger of q. `CardOk` is the whole invariant at a card.
+-- LAWS. One card: its replica against every origin at once, and its two sets of the ledger of q. `CardOk` is the whole invariant at a card.
 --     card-more      some origin makes one more message
 --     card-taken     the card takes the message that is next from some origin
--- Assumes nothing.
-use Prim.Native.Nat.{ℕ, zero, suc, _+_, _≤_, _<_, max}
+use Prim.Native.Nat.{ℕ, suc, _+_, _<_, max}
 use mathlib.Core.Path.{_≡_, refl, sym, ap, _∙_}
 use mathlib.Core.Bool.{Bool, true, false, cond}
 use mathlib.Core.List.{List, [], _∷_, _++_, map}
@@ -11,14 +10,14 @@ use native.Mathlib.Omega.{arith}
 use lib.ListN.{length, getD}
 use Rattle.protocol.specs.Cases.{by-place}
 use Rattle.protocol.specs.Tables.{put, put-same, put-other, put-at, put-same-row, put-other-row, put-agrees}
-use Rattle.protocol.specs.Entry.{Entry, incremented, cleared}
+use Rattle.protocol.specs.Entry.{Entry, incremented}
 use Rattle.protocol.specs.Marks.{Mark, after-other, later-of}
 use Rattle.protocol.specs.EntryLaws.{cancelled-by-increment}
 use Rattle.protocol.specs.Names.{Name, join, insert, names-after, names-up-to}
 use Rattle.protocol.specs.NameLaws.{Prefixes, Prefixes-cong, join-ok}
 use Rattle.protocol.specs.Ledger.{Item, nothing}
-use Rattle.protocol.specs.Chassis.{Message, increment, clearing, Replica, ClearEntry, cleared-row, taken}
-use Rattle.protocol.specs.Chain.{Note, other, inc, clr, no-note, Target, cleared-entry, wire, counter-of, units-of, after, mark-at, ValidNotes, OnChain, note-ok, mark-suc, mark-append}
+use Rattle.protocol.specs.Chassis.{Message, increment, clearing, Replica, cleared-row, taken}
+use Rattle.protocol.specs.Chain.{Note, other, inc, clr, no-note, Target, cleared-entry, wire, counter-of, units-of, mark-at, ValidNotes, OnChain, note-ok, mark-suc, mark-append}
 use Rattle.protocol.specs.Pairs.{PairOk, pair-more, pair-other, pair-clear-taken, pair-increment, pair-clear, later-names}
 
 -- The mark of what the card of replica b has received from j. (An abbrev, and above every section: inside one it would carry the section's proofs

@@ -1,16 +1,15 @@
--- A CARD'S MESSAGES, seen from one counter q: notes. A note says what the proof has to know of a message and what the message itself does
+-- LAWS. A card's messages, seen from one counter q: notes. A note says what the proof has to know of a message and what the message itself does
 -- not tell: of each entry of a clear, the mark of the messages that it clears up to. `wire` gives the message back.
 -- The marks of a list of notes are proper and ordered (`mark-proper`, `marks-ordered`), and stay what they are when notes are appended.
--- Assumes nothing.
-use Prim.Native.Nat.{ℕ, zero, suc, _+_, _≤_, _<_}
-use mathlib.Core.Path.{_≡_, refl, sym, ap, _∙_}
-use mathlib.Core.Bool.{Bool, true, false, cond}
-use mathlib.Core.Logic.{_⊎_, inl, inr}
+use Prim.Native.Nat.{ℕ, zero, suc, _≤_, _<_}
+use mathlib.Core.Path.{_≡_, refl, sym, _∙_}
+use mathlib.Core.Bool.{Bool}
+use mathlib.Core.Logic.{inl, inr}
 use mathlib.Core.List.{List, [], _∷_, _++_, map}
 use native.Mathlib.Omega.{arith}
-use lib.ListN.{length, getD, drop, length-append}
+use lib.ListN.{length, getD, length-append}
 use Rattle.protocol.specs.Cases.{by-le}
-use Rattle.protocol.specs.Marks.{Mark, no-messages, after-increment, after-other, Follows, Proper, Before, Proper-none, Proper-increment, Proper-other, Before-refl, Before-increment, Before-other, Before-trans, later-of}
+use Rattle.protocol.specs.Marks.{Mark, no-messages, after-increment, after-other, Follows, Proper, Before, Proper-none, Proper-increment, Proper-other, Before-refl, Before-increment, Before-other, Before-trans}
 use Rattle.protocol.specs.EntryLaws.{Ordered}
 use Rattle.protocol.specs.Chassis.{Message, increment, clearing, no-message, ClearEntry}
 

@@ -1,18 +1,19 @@
--- THE ENTRY'S INVARIANT: what a card's entry for an origin says, in terms of two marks of that origin's messages:
+-- LAWS. The entry's invariant: what a card's entry for an origin says, in terms of two marks of that origin's messages:
 --     R   the messages that the card has received
 --     X   as far as the card has the origin's names cancelled
 -- and its two laws: an increment taken (`incremented-ok`) and an entry of a clear taken (`cleared-ok`) keep it.
--- The laws speak of one entry and of marks. They know nothing of replicas, histories or ledgers. Assumes nothing.
+-- The laws speak of one entry and of marks. They know nothing of replicas, histories or ledgers.
 use Prim.Native.Nat.{ℕ, _+_, _-_, _≤_, _<_}
-use mathlib.Core.Path.{_≡_, refl, sym, _∙_}
-use mathlib.Core.Bool.{Bool, true, false, not, cond, _&&_, _||_, true≢false, false≢true}
+use mathlib.Core.Path.{_≡_, refl, sym}
+use mathlib.Core.Bool.{Bool, true, false, not, cond, true≢false, false≢true}
 use mathlib.Core.Logic.{_⊎_, inl, inr}
 use native.Mathlib.Omega.{arith}
 use lib.Dec.{ltb, leb, eqb}
 use borrow.Author.Tests.{ltb-true, lt-ltb, le-ltb, le-leb, lt-leb, eq-eqb, ne-eqb}
 use Rattle.protocol.specs.Cases.{by-le, and-yes, and-no-left, and-no-right}
-use Rattle.protocol.specs.Entry.{Entry, absent, present, larger, removeIf, raised, finished, incremented, lowered, settled, cleared, count-starts, count-p}
-use Rattle.protocol.specs.Marks.{Mark, Proper, Before, Follows, after-increment, after-other, later-of}
+use Rattle.protocol.specs.Entry.{Entry, absent, present, larger, removeIf, finished, incremented, lowered, settled, cleared, count-starts, count-p}
+pub use Rattle.protocol.specs.Rows.{WellFormed}
+use Rattle.protocol.specs.Marks.{Mark, Proper, Before, Follows, after-increment, later-of}
 
 -- Three cases, and in each what the three numbers are. They are stated as equations of numbers, which `omega` reads.
 pub data EntryOk (R X : Mark) (e : Entry) : Type 0 where
@@ -263,13 +264,7 @@ count-follows R X e w h k b (behind s i j l) = absurd (omega arith)
 
 -- ---- no refusal 2 and no refusal 10 in a run
 
--- an entry of a sound row, where no card has made more than `most` units
-pub record WellFormed (most : ℕ) (e : Entry) : Type 0 where
-  pub n≤p : e .n ≤ e .p
-  pub p≤c : e .p ≤ e .c
-  pub c≤most : e .c ≤ most
-  pub absent-whole : e .p ≡ 0 → e .c ≡ 0
-
+-- where no card has made more than `most` units
 pub entry-well-formed : (most : ℕ) (R X : Mark) (e : Entry) → Proper R → Proper X → R .units ≤ most → X .units ≤ most → EntryOk R X e → WellFormed most e
 entry-well-formed most R X e k kx a b (even s i j l) = omega arith
 entry-well-formed most R X e k kx a b (ahead s i j l) = omega arith

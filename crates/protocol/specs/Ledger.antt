@@ -1,65 +1,41 @@
--- THE LEDGER of one counter q, as document 01 says it. It is fed the steps, each with whether it was accepted, and nothing else.
--- A count has an amount w, 1 in document 01: then it makes one name. Assumes nothing.
+-- DEFINITIONS. Document 01's "The ledger", each of its sentences quoted above what says it, in the document's order but for one thing:
+-- how the ledger is fed comes after the three steps, since a definition stands above its use.
+-- A count has an amount w and makes w names. In document 01 w is 1: "a new name".
 use Prim.Native.Nat.{ℕ, zero, suc, max}
 use mathlib.Core.Bool.{Bool, true, false, not, cond, _||_}
 use mathlib.Core.List.{List, [], _∷_, _++_}
 use lib.Dec.{eqb}
-use Rattle.protocol.specs.Tables.{put, bits}
+use Rattle.protocol.specs.Functions.{put, bits}
 use Rattle.protocol.specs.Names.{Name, join, names-after, names-up-to, tally, has, latest, beyond}
 
--- count (card, counter, amount), clear (card, counter), deliver (receiver, sender)
+-- "1 count (card, counter), 2 clear (card, counter), 3 deliver (receiver, sender)"; a count's amount is its third number
 pub data Step : Type 0 where
   count : ℕ → ℕ → ℕ → Step
   clear : ℕ → ℕ → Step
   deliver : ℕ → ℕ → Step
 
--- what a message says of counter q: the names that join received, and those that join cancelled. A message of another counter says nothing.
+-- What a message says of the ledger's counter: the names that join received, and those that join cancelled.
 pub record Item : Type 0 where
   pub adds : List Name
   pub cancels : List Name
 
+-- a message of another counter
 abbrev pub nothing : Item
 nothing = record { adds = []; cancels = [] }
 
+-- "One ledger for each counter." "Each card has a received set and a cancelled set, .. and each link a queue."
 pub record Ledger : Type 0 where
   pub received : ℕ → List Name
   pub cancelled : ℕ → List Name
-  -- of the link from a sender to a receiver: what it has still to hand over, in the order made
+  -- by sender, then by receiver: what the link has still to hand over, "in the order made"
   pub queue : ℕ → ℕ → List Item
 
+-- "empty at first"
 abbrev pub empty-ledger : Ledger
 empty-ledger = record { received = λ i. []; cancelled = λ i. []; queue = λ s i. [] }
 
--- card i applies an item
-unfoldable pub applied : ℕ → Item → Ledger → Ledger
-applied i it l = record {
-  received = put i (join (it .adds) (l .received i)) (l .received);
-  cancelled = put i (join (it .cancels) (l .cancelled i)) (l .cancelled);
-  queue = l .queue;
-}
-
--- card i makes a message: it goes to every link that leaves i, and the maker applies it.
--- (The entry of `queue` from i to i itself is no link: no step takes from it.)
-unfoldable pub sent : ℕ → Item → Ledger → Ledger
-sent i it l = record { received = l .received; cancelled = l .cancelled; queue = put i (λ k. l .queue i k ++ it ∷ []) (l .queue) }
-
-unfoldable pub made : ℕ → Item → Ledger → Ledger
-made i it l = applied i it (sent i it l)
-
--- the link from s hands its next item to card i
-unfoldable pub next-item : List Item → Item
-next-item [] = nothing
-next-item (it ∷ rest) = it
-
-unfoldable pub rest-items : List Item → List Item
-rest-items [] = []
-rest-items (it ∷ rest) = rest
-
-unfoldable pub handed : ℕ → ℕ → Ledger → Ledger
-handed i s l = applied i (next-item (l .queue s i))
-    (record { received = l .received; cancelled = l .cancelled; queue = put s (put i (rest-items (l .queue s i)) (l .queue s)) (l .queue) })
-
--- a count by i: w new names. If no name of i is received and uncancelled at i, it also cancels all earlier names of i.
+-- ---- "Count by i: a new name. If no name of i is received and uncancelled at i, the message also cancels all earlier names of i."
+-- The rule is looked at before the new name joins. Card i has received all its own names, so the latest of them is the last one made.
 unfoldable pub count-item : ℕ → ℕ → Ledger → Item
 count-item i w l =
     let earlier = latest i (l .received i) in
@@ -68,11 +44,11 @@ count-item i w l =
       cancels = cond (beyond i (l .received i) (l .cancelled i)) [] (names-up-to i earlier);
     }
 
--- has card j a name in exactly one of i's two sets?
+-- ---- "Clear by i: for each card j with a name in exactly one of i's two sets,"
 unfoldable pub holds : ℕ → ℕ → Ledger → Bool
 holds i j l = beyond j (l .received i) (l .cancelled i) || beyond j (l .cancelled i) (l .received i)
 
--- a clear by i: of each card with a name in exactly one of i's two sets, the names up to the latest in either. The cards are those below r.
+-- "the message cancels j's names up to the latest in either set." The cards j are those below r.
 unfoldable pub clear-names : ℕ → ℕ → Ledger → List Name
 clear-names zero i l = []
 clear-names (suc r) i l =
@@ -81,25 +57,69 @@ clear-names (suc r) i l =
 abbrev pub clear-item : ℕ → ℕ → Ledger → Item
 clear-item r i l = record { adds = []; cancels = clear-names r i l }
 
--- an accepted step; a step of another counter changes only the queues
+-- ---- "Deliver: a link hands over its sender's accepted counts and clears, of all counters, in the order made, and the step belongs to the
+-- counter of the one whose turn it is."
+
+-- the one whose turn it is: of another counter it is `nothing`
+unfoldable pub next-item : List Item → Item
+next-item [] = nothing
+next-item (it ∷ rest) = it
+
+unfoldable pub rest-items : List Item → List Item
+rest-items [] = []
+rest-items (it ∷ rest) = rest
+
+-- "While a link has nothing to hand over, no deliver step on it is accepted.": has the link from s to i something? (claim `deliver-enabled`)
+unfoldable pub some-item : List Item → Bool
+some-item [] = false
+some-item (it ∷ rest) = true
+
+abbrev pub link-waits : ℕ → ℕ → Ledger → Bool
+link-waits i s l = some-item (l .queue s i)
+
+-- "An increment joins received, its cancellations join cancelled.": card i applies an item
+unfoldable pub applied : ℕ → Item → Ledger → Ledger
+applied i it l = record {
+  received = put i (join (it .adds) (l .received i)) (l .received);
+  cancelled = put i (join (it .cancels) (l .cancelled i)) (l .cancelled);
+  queue = l .queue;
+}
+
+-- a deliver step: the link from s hands over to i
+unfoldable pub handed : ℕ → ℕ → Ledger → Ledger
+handed i s l = applied i (next-item (l .queue s i))
+    (record { received = l .received; cancelled = l .cancelled; queue = put s (put i (rest-items (l .queue s i)) (l .queue s)) (l .queue) })
+
+-- what i makes goes to every link that leaves i (the queue from i to i itself is no link: no step takes from it)
+unfoldable pub sent : ℕ → Item → Ledger → Ledger
+sent i it l = record { received = l .received; cancelled = l .cancelled; queue = put i (λ k. l .queue i k ++ it ∷ []) (l .queue) }
+
+-- "The maker applies its own message when making it."
+unfoldable pub made : ℕ → Item → Ledger → Ledger
+made i it l = applied i it (sent i it l)
+
+-- ---- "It is fed the list's steps in order and told which of them were accepted (number 0). It takes nothing else from answers, books or logs."
+
+-- "an accepted step of another counter changes only its queues"
 unfoldable pub entered : ℕ → ℕ → Step → Ledger → Ledger
 entered r q (count i k w) l = made i (cond (eqb k q) (count-item i w l) nothing) l
 entered r q (clear i k) l = made i (cond (eqb k q) (clear-item r i l) nothing) l
 entered r q (deliver i s) l = handed i s l
 
+-- "A declined step changes nothing in it"
 unfoldable pub fed : ℕ → ℕ → Step → Bool → Ledger → Ledger
 fed r q s accepted l = cond accepted (entered r q s l) l
 
--- What the ledger says at card i: the value, and whether j is among the holding cards (`holds`).
-unfoldable pub ledger-value : ℕ → Ledger → ℕ
-ledger-value i l = tally (λ n. not (has (l .cancelled i) n)) (l .received i)
-
--- the holding cards as a number, card j as bit j
-unfoldable pub ledger-holders : ℕ → ℕ → Ledger → ℕ
-ledger-holders r i l = bits r (λ j. holds i j l)
-
--- The ledger after a list of steps, told of each whether it was accepted.
+-- the list's steps, and of each whether it was accepted
 unfoldable pub kept : ℕ → ℕ → List Step → List Bool → Ledger → Ledger
 kept r q [] fs l = l
 kept r q (s ∷ ss) [] l = l
 kept r q (s ∷ ss) (a ∷ fs) l = kept r q ss fs (fed r q s a l)
+
+-- ---- "Value at a card: the number of names received and not cancelled there."
+unfoldable pub ledger-value : ℕ → Ledger → ℕ
+ledger-value i l = tally (λ n. not (has (l .cancelled i) n)) (l .received i)
+
+-- "Holding cards: those with a name in exactly one of that card's two sets; card j is bit j of read's holder set."
+unfoldable pub ledger-holders : ℕ → ℕ → Ledger → ℕ
+ledger-holders r i l = bits r (λ j. holds i j l)

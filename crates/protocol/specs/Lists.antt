@@ -1,4 +1,4 @@
--- A property of each place of a list, when one element is appended. Assumes nothing.
+-- LAWS. A property of each place of a list, when one element is appended.
 use Prim.Native.Nat.{ℕ, suc, _+_, _<_}
 use mathlib.Core.Path.{_≡_}
 use mathlib.Core.List.{List, [], _∷_, _++_}

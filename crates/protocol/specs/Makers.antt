@@ -1,6 +1,6 @@
--- WHAT A CARD SENDS. For a count and for a clear of q by card i: the note of the message, that the message is the note's, that the note is
--- in order, and that the ledger, from its own sets, makes the note's item. Assumes nothing.
-use Prim.Native.Nat.{ℕ, zero, suc, _+_, _≤_, _<_, max}
+-- LAWS. What a card sends. For a count and for a clear of q by card i: the note of the message, that the message is the note's, that the note is
+-- in order, and that the ledger, from its own sets, makes the note's item.
+use Prim.Native.Nat.{ℕ, zero, suc, _≤_, _<_, max}
 use mathlib.Core.Path.{_≡_, refl, sym, ap, ap₂, _∙_}
 use mathlib.Core.Bool.{Bool, true, false, not, cond, _||_}
 use mathlib.Core.List.{List, [], _∷_, _++_, map, append-assoc, append-nil, map-append}
@@ -10,14 +10,14 @@ use lib.ListN.{length}
 use borrow.Author.Tests.{lt-ltb, le-ltb, eq-eqb, ne-eqb}
 use Rattle.protocol.specs.Cases.{by-place, by-le, or-left, or-right}
 use Rattle.protocol.specs.Entry.{Entry, present, count-starts, count-p}
-use Rattle.protocol.specs.Marks.{Mark, later-of, Follows, Proper, Before}
-use Rattle.protocol.specs.EntryLaws.{EntryOk, reads-holder, reads-own, sends-mark, count-follows}
-use Rattle.protocol.specs.Names.{Name, names-after, names-up-to, latest, beyond}
-use Rattle.protocol.specs.NameLaws.{Prefixes, latest-is, beyond-is}
+use Rattle.protocol.specs.Marks.{Mark, later-of, Proper, Before}
+use Rattle.protocol.specs.EntryLaws.{reads-holder, reads-own, sends-mark, count-follows}
+use Rattle.protocol.specs.Names.{Name, names-after, names-up-to}
+use Rattle.protocol.specs.NameLaws.{latest-is, beyond-is}
 use Rattle.protocol.specs.Ledger.{Item, Ledger, count-item, clear-names, clear-item, holds}
-use Rattle.protocol.specs.Chassis.{Replica, clearing, ClearEntry, count-message, present-entries, clear-message}
-use Rattle.protocol.specs.Chain.{Note, inc, clr, Target, cleared-entry, wire, mark-at, NoteOk, OwnWithin, ValidNotes, OnChain, mark-proper}
-use Rattle.protocol.specs.Pairs.{PairOk, chain-proper, chain-before-end, on-chain-later, on-chain-at, later-names}
+use Rattle.protocol.specs.Chassis.{Replica, clearing, count-message, present-entries, clear-message}
+use Rattle.protocol.specs.Chain.{Note, inc, clr, Target, cleared-entry, wire, NoteOk, OwnWithin, ValidNotes, OnChain, mark-proper}
+use Rattle.protocol.specs.Pairs.{chain-proper, chain-before-end, on-chain-later, on-chain-at, later-names}
 use Rattle.protocol.specs.Cards.{seen, CardOk, item, target-names, TargetsOn}
 
 -- a name in exactly one of two sets with prefixes f and g

@@ -1,7 +1,6 @@
--- MARKS. For one card j (the origin of messages) and one counter q, a mark sums up the first so-many messages that j has made.
+-- LAWS. Marks. For one card j (the origin of messages) and one counter q, a mark sums up the first so-many messages that j has made.
 -- All that the proof knows about the p and c fields of q's increments is said of marks, so no proof ever looks into a history:
 -- two marks of one history are ordered (`Before`), and each is `Proper`. Both are plain linear facts, which `omega` uses.
--- Assumes nothing.
 use Prim.Native.Nat.{ℕ, _+_, _≤_, _<_}
 use mathlib.Core.Path.{_≡_, _∙_}
 use mathlib.Core.Bool.{Bool, true, false, cond}

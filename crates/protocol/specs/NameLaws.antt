@@ -1,19 +1,18 @@
--- THE REDUCTION. A set of the ledger holds, of each card j, the first f j names: `Prefixes s f`. From that alone:
+-- LAWS. The reduction of sets to numbers. A set of the ledger holds, of each card j, the first f j names: `Prefixes s f`. From that alone:
 --     join-ok            names that join after a prefix make a longer prefix
 --     latest-is          the latest name is the f j-th
 --     beyond-is          a name of j is in s and not in t exactly if s's prefix is longer
 --     tally-is           the names in s and not in t: the sum of the differences
--- Assumes nothing.
 use Prim.Native.Nat.{ℕ, zero, suc, _+_, _-_, _≤_, _<_, max}
 use mathlib.Core.Path.{_≡_, refl, sym, ap, ap₂, _∙_}
-use mathlib.Core.Bool.{Bool, true, false, not, cond, _&&_, _||_, false≢true}
+use mathlib.Core.Bool.{Bool, true, false, not, cond, _&&_, false≢true}
 use mathlib.Core.List.{List, [], _∷_}
 use native.Mathlib.Omega.{arith}
 use lib.Dec.{eqb, ltb}
 use borrow.Author.Tests.{eqb-true, lt-ltb, le-ltb, eq-eqb, ne-eqb}
 use Rattle.protocol.specs.Cases.{by-test, by-le, by-place, and-yes, and-left, and-right, and-no-left, and-no-right, or-left, or-right, not-yes}
 use Rattle.protocol.specs.Tables.{put, put-same, put-other, put-at, put-agrees, sum, sum-cong, sum-plus, sum-zero, sum-one}
-use Rattle.protocol.specs.Names.{Name, name, same-name, has, insert, join, names-after, names-up-to, tally, any, latest, beyond}
+use Rattle.protocol.specs.Names.{Name, name, same-name, has, insert, join, names-after, tally, any, latest, beyond}
 
 -- card j's names that are later than the x-th
 abbrev pub above : ℕ → ℕ → Name → Bool

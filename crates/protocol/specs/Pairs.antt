@@ -1,9 +1,9 @@
--- ONE CARD AND ONE ORIGIN. `PairOk`: what a card's replica has of one origin (N, C, and the entry of counter q) against the origin's notes `h`
--- and the mark X up to which the card has the origin's names cancelled. Here: what taking a message does to it. Assumes nothing.
-use Prim.Native.Nat.{ℕ, zero, suc, _+_, _≤_, _<_, max}
-use mathlib.Core.Path.{_≡_, refl, sym, ap, _∙_}
+-- LAWS. One card and one origin. `PairOk`: what a card's replica has of one origin (N, C, and the entry of counter q) against the origin's notes `h`
+-- and the mark X up to which the card has the origin's names cancelled. Here: what taking a message does to it.
+use Prim.Native.Nat.{ℕ, suc, _+_, _≤_, _<_, max}
+use mathlib.Core.Path.{_≡_, refl, ap, _∙_}
 use mathlib.Core.Bool.{Bool, true, false, cond}
-use mathlib.Core.Logic.{_⊎_, inl, inr}
+use mathlib.Core.Logic.{inl, inr}
 use mathlib.Core.List.{List, [], _∷_, _++_}
 use native.Mathlib.Omega.{arith}
 use lib.Dec.{leb}
@@ -12,7 +12,7 @@ use Rattle.protocol.specs.Cases.{by-le}
 use Rattle.protocol.specs.Entry.{Entry, incremented, cleared}
 use Rattle.protocol.specs.Marks.{Mark, after-increment, after-other, Follows, Proper, Before, later-of}
 use Rattle.protocol.specs.EntryLaws.{EntryOk, even, ahead, behind, Ordered, Placed, cancelled-by-increment, incremented-ok, cleared-ok, later-second, later-first}
-use Rattle.protocol.specs.Chain.{Note, inc, no-note, after, mark-at, NoteOk, ValidNotes, OnChain, mark-proper, marks-before, marks-ordered, note-ok, mark-suc, mark-append, on-chain-more}
+use Rattle.protocol.specs.Chain.{Note, inc, no-note, after, mark-at, ValidNotes, OnChain, mark-proper, marks-before, marks-ordered, note-ok, mark-suc, mark-append, on-chain-more}
 
 pub record PairOk (h : List Note) (N C : ℕ) (X : Mark) (e : Entry) : Type 0 where
   pub within : N ≤ length h

@@ -1,34 +1,27 @@
--- NO REFUSAL 2 AND NO REFUSAL 10 IN A RUN: whatever waits is plausible to its receiver, and every row is sound. From the invariant alone.
--- Assumes nothing.
+-- LAWS. No refusal 2 and no refusal 10 in a run: whatever waits is plausible to its receiver, and every row is well-formed. Both follow from
+-- the invariant (`Ok`) alone, so a run that is followed step by step has them too.
 use Prim.Native.Nat.{ℕ, zero, suc, _+_, _≤_, _<_}
-use mathlib.Core.Path.{_≡_, refl, sym, ap, _∙_}
-use mathlib.Core.Bool.{Bool, true, false}
+use mathlib.Core.Path.{_≡_, refl}
 use mathlib.Core.List.{List, [], _∷_, _++_, map}
 use native.Mathlib.Omega.{arith}
 use lib.ListN.{length, getD, List·getD-map}
-use Rattle.protocol.specs.Entry.{Entry}
-use Rattle.protocol.specs.Cases.{by-place, by-test}
-use Rattle.protocol.specs.Tables.{put, put-at, put-other}
-use Rattle.protocol.specs.Marks.{Mark, no-messages, Proper, Before}
-use Rattle.protocol.specs.EntryLaws.{WellFormed, entry-well-formed, own-entry-well-formed, increment-plausible}
-use Rattle.protocol.specs.Ledger.{Ledger, empty-ledger, Step, count, clear, deliver}
-use Rattle.protocol.specs.Chassis.{Message, increment, clearing, no-message, ClearEntry, Replica, Chassis, fresh-chassis, count-message, clear-message, issued, delivered, done, Offer, accepted, stepped, run}
+use Rattle.protocol.specs.Rows.{WellFormed, WellFormedRow}
+use Rattle.protocol.specs.Cases.{by-place, by-le, by-test}
+use Rattle.protocol.specs.Tables.{put-at, put-other}
+use Rattle.protocol.specs.Marks.{Mark, Before}
+use Rattle.protocol.specs.EntryLaws.{entry-well-formed, own-entry-well-formed, increment-plausible}
+use Rattle.protocol.specs.Ledger.{Ledger, Step, count, clear, deliver}
+use Rattle.protocol.specs.Chassis.{Message, no-message, Chassis, fresh-chassis, count-message, clear-message, issued, delivered, done, Offer, accepted, stepped, run}
 use Rattle.protocol.specs.Chain as chain
-use Rattle.protocol.specs.Chain.{Note, inc, clr, no-note, Target, cleared-entry, wire, counter-of, units-of, after, mark-from, mark-at, NoteOk, OwnWithin, ValidNotes, OnChain, mark-proper, mark-suc, note-ok}
-use Rattle.protocol.specs.Pairs.{PairOk, chain-proper, chain-before-end, on-chain-at}
-use Rattle.protocol.specs.Cards.{CardOk, TargetsOn, NoteTargetsOn}
+use Rattle.protocol.specs.Chain.{Note, inc, clr, no-note, Target, cleared-entry, wire, counter-of, units-of, after, mark-from, mark-at, OwnWithin, OnChain, mark-proper, mark-suc, note-ok}
+use Rattle.protocol.specs.Pairs.{chain-proper, chain-before-end, on-chain-at}
+use Rattle.protocol.specs.Cards.{TargetsOn}
 use Rattle.protocol.specs.Steps.{Ok}
-use Rattle.protocol.specs.Theorem.{after-run, ledger-after, fresh-ok, run-ok}
-
--- ---- plausible, as document 01 says it: m comes from card s to card i, whose C is given
-
-abbrev pub PlausibleEntries : ℕ → ℕ → (ℕ → ℕ) → List ClearEntry → Type 0
-PlausibleEntries i s C [] = Unit {0}
-PlausibleEntries i s C (t ∷ ts) = ((t .card ≡ i → t .c ≤ C i) × (t .card ≡ s → t .c ≤ C s)) × PlausibleEntries i s C ts
-
-abbrev pub Plausible : ℕ → ℕ → (ℕ → ℕ) → Message → Type 0
-Plausible i s C (increment q w p start) = (p ≤ C s + w) × (start ≡ true → p ≡ C s + w) × (start ≡ false → w < p)
-Plausible i s C (clearing q ts) = PlausibleEntries i s C ts
+use Rattle.protocol.specs.Links.{outside-N}
+use Rattle.protocol.specs.Theorem.{run-invariant}
+use Rattle.protocol.specs.Runs.{after-run, ledger-after}
+pub use Rattle.protocol.specs.Rows.{Plausible, PlausibleEntries}
+pub use Rattle.protocol.specs.Runs.{StepByOne, AmountsOne}
 
 module _ (r q : ℕ) (st : Chassis) (l : Ledger) (k : Ok r q st l) where
   C-is : (i j : ℕ) → st .replica i .C j ≡ mark-at (st .replica i .N j) (k .notes j) .units
@@ -75,7 +68,7 @@ module _ (r q : ℕ) (st : Chassis) (l : Ledger) (k : Ok r q st l) where
       = rw (k .logs s) (List·getD-map (wire q) (k .notes s) (st .replica i .N s) no-note) in
       rw m (note-plausible i s (rw (← (k .own s)) waits) (getD (k .notes s) (st .replica i .N s) no-note) refl)
 
-  -- ---- a sound row
+  -- ---- a well-formed row
 
   pub row-well-formed : (most : ℕ) → ((j : ℕ) → st .replica j .C j ≤ most) → (i j : ℕ) → WellFormed most (st .replica i .entry q j)
   row-well-formed most fits i j =
@@ -132,23 +125,9 @@ pub run-plausible : (r i s : ℕ) (os : List Offer) → after-run r os .replica 
     → Plausible i s (after-run r os .replica i .C) (getD (after-run r os .log s) (after-run r os .replica i .N s) no-message)
 run-plausible r i s os waits =
     let q = counter-of (getD (after-run r os .log s) (after-run r os .replica i .N s) no-message) in
-    waiting-plausible r q (after-run r os) (ledger-after r q os) (run-ok r q os fresh-chassis empty-ledger (fresh-ok r q)) i s waits refl
-
--- every entry is one of a sound row, if no card has made more than `most` units
-pub run-well-formed : (r q i j most : ℕ) (os : List Offer) → ((n : ℕ) → after-run r os .replica n .C n ≤ most) → WellFormed most (after-run r os .replica i .entry q j)
-run-well-formed r q i j most os fits =
-    row-well-formed r q (after-run r os) (ledger-after r q os) (run-ok r q os fresh-chassis empty-ledger (fresh-ok r q)) most fits i j
+    waiting-plausible r q (after-run r os) (ledger-after r q os) (run-invariant r q os) i s waits refl
 
 -- ---- where every count is by 1, no message has more than one unit, and so C is at most N in every run
-
-abbrev pub StepByOne : Step → Type 0
-StepByOne (count i q w) = w ≤ 1
-StepByOne (clear i q) = Unit {0}
-StepByOne (deliver i s) = Unit {0}
-
-abbrev pub AmountsOne : List Offer → Type 0
-AmountsOne [] = Unit {0}
-AmountsOne (o ∷ os) = StepByOne (o .step) × AmountsOne os
 
 ones-append : (l : List Message) (m : Message) → ((n : ℕ) → units-of (getD l n no-message) ≤ 1) → units-of m ≤ 1
     → (n : ℕ) → units-of (getD (l ++ m ∷ []) n no-message) ≤ 1
@@ -168,13 +147,41 @@ done-ones r (count i q w) st one h = issued-ones i _ st one h
 done-ones r (clear i q) st one h = issued-ones i _ st (omega arith) h
 done-ones r (deliver i s) st one h = h
 
+pub stepped-ones : (r : ℕ) (o : Offer) (st : Chassis) → StepByOne (o .step) → Ones st → Ones (stepped r o st)
+unfolding stepped
+stepped-ones r o st one h = by-test (accepted r o st) (λ e. rw e (done-ones r (o .step) st one h)) (λ e. rw e h)
+
+pub fresh-ones : Ones fresh-chassis
+fresh-ones j n = omega arith
+
 run-ones : (r : ℕ) (os : List Offer) (st : Chassis) → AmountsOne os → Ones st → Ones (run r os st)
-unfolding run stepped
+unfolding run
 run-ones r [] st a h = h
-run-ones r (o ∷ os) st a h =
-    run-ones r os _ (a .1) (by-test (accepted r o st) (λ e. rw e (done-ones r (o .step) st (a .0) h)) (λ e. rw e h))
+run-ones r (o ∷ os) st a h = run-ones r os _ (a .1) (stepped-ones r o st (a .0) h)
 
 pub run-C≤N : (r i j : ℕ) (os : List Offer) → AmountsOne os → after-run r os .replica i .C j ≤ after-run r os .replica i .N j
 run-C≤N r i j os a =
-    C≤N r 0 (after-run r os) (ledger-after r 0 os) (run-ok r 0 os fresh-chassis empty-ledger (fresh-ok r 0))
-    (run-ones r os fresh-chassis a (λ j n. omega arith)) i j
+    C≤N r 0 (after-run r os) (ledger-after r 0 os) (run-invariant r 0 os)
+    (run-ones r os fresh-chassis a fresh-ones) i j
+
+-- every row is well-formed, if no card has made more than `most` messages
+pub run-well-formed : (r q i most : ℕ) (os : List Offer) → AmountsOne os → ((n : ℕ) → n < r → after-run r os .replica n .N n ≤ most)
+    → WellFormedRow most i q (after-run r os .replica i)
+run-well-formed r q i most os ones fits = record {
+  C≤N = λ j. run-C≤N r i j os ones;
+  N≤most = λ j. let a = made j in let b = received-within r q st l k i j .1 in omega arith;
+  entries = row-well-formed r q st l k most (λ n. let a = made n in let b = run-C≤N r n n os ones in omega arith) i;
+  own = own-row-well-formed r q st l k i;
+}
+  where
+    st : Chassis
+    st = after-run r os
+
+    l : Ledger
+    l = ledger-after r q os
+
+    k : Ok r q (after-run r os) (ledger-after r q os)
+    k = run-invariant r q os
+
+    made : (n : ℕ) → after-run r os .replica n .N n ≤ most
+    made n = by-le r n (λ far. let z = outside-N r q (after-run r os) (ledger-after r q os) k n far n in omega arith) (λ below. fits n below)

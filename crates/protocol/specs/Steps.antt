@@ -1,12 +1,9 @@
--- THE WHOLE INVARIANT, of a chassis and the ledger of one counter q, and the two moves that every accepted step is made of:
+-- LAWS. The whole invariant, of a chassis and the ledger of one counter q, and the two moves that every accepted step is made of:
 --     issued-ok       a card makes a message and takes it itself (count, clear)
 --     delivered-ok    a card takes the next message of another card
--- Assumes nothing.
-use Prim.Native.Nat.{ℕ, zero, suc, _+_, _≤_, _<_}
-use mathlib.Core.Path.{_≡_, refl, sym, ap, ap₂, _∙_}
-use mathlib.Core.Bool.{Bool, true, false, cond}
+use Prim.Native.Nat.{ℕ, zero, suc, _≤_, _<_}
+use mathlib.Core.Path.{_≡_, refl, sym, ap, _∙_}
 use mathlib.Core.List.{List, [], _∷_, _++_, map, map-append}
-use native.Mathlib.Nat.{le-refl}
 use native.Mathlib.Omega.{arith}
 use lib.ListN.{length, getD, drop, length-append, List·getD-map}
 use lib.Seq.{drop-cons, getD-append-seam}
@@ -14,13 +11,10 @@ use Rattle.protocol.specs.Cases.{by-place}
 use Rattle.protocol.specs.Lists.{places-more}
 use Rattle.protocol.specs.Tables.{put, put-same, put-other, put-at, put-same-row, put-other-row, put-cases}
 use Rattle.protocol.specs.Marks.{Mark, no-messages}
-use Rattle.protocol.specs.Names.{Name, join}
-use Rattle.protocol.specs.NameLaws.{Prefixes, Prefixes-empty}
+use Rattle.protocol.specs.Names.{join}
 use Rattle.protocol.specs.Ledger.{Item, Ledger, applied, sent, made, handed, next-item, rest-items}
 use Rattle.protocol.specs.Chassis.{Message, increment, clearing, no-message, Replica, taken, Chassis, issued, delivered}
 use Rattle.protocol.specs.Chain.{Note, other, no-note, Target, clr, inc, wire, after, mark-from, mark-at, NoteOk, ValidNotes, OnChain, mark-suc, mark-append, on-chain-more, valid-more}
-use Rattle.protocol.specs.Pairs.{PairOk}
-use Rattle.protocol.specs.Levels.{reach, level, level-from, level-suc, level-append, most-cong, most-raised, row-after-names}
 use Rattle.protocol.specs.Cards.{seen, CardOk, item, TargetsOn, NoteTargetsOn, row-after, card-more, card-taken}
 
 -- what a link has still to hand over: the items of notes h, where k is the mark of the notes before
@@ -42,8 +36,6 @@ pub record Ok (r q : ℕ) (st : Chassis) (l : Ledger) : Type 0 where
   pub own : (i : ℕ) → st .replica i .N i ≡ length (notes i)
   pub queues : (s i : ℕ) → (i ≡ s → ⊥) → l .queue s i ≡ waiting s (notes s) (st .replica i .N s)
   pub outside : (j : ℕ) → r ≤ j → notes j ≡ []
-  -- names are cancelled as far as the received notes say, and no further
-  pub levels : (i j : ℕ) → row i j .names ≡ level r notes (st .replica i .N) j
 
 -- ---- the waiting items, when a message is made and when one is handed over
 
@@ -162,32 +154,6 @@ module _ (r q : ℕ) (st : Chassis) (l : Ledger) (k : Ok r q st l) (i : ℕ) (t 
       (λ f. simp (put-other-row, put-at, taken-N, put-other) (rw (← f) (k .queues s j apart)))
       (λ f. simp (put-other-row, put-other) (k .queues s j apart)))
 
-  levels⁺ : i < r → (n j : ℕ)
-      → put i (row-after i t (seen (k .notes) (st .replica i) i) (k .row i)) (k .row) n j .names
-      ≡ level r (more-notes (k .notes) i t) (put i (taken i (wire q t) (st .replica i)) (st .replica) n .N) j
-  levels⁺ below n j =
-      by-place n i
-      (λ e.
-      rw (
-        e,
-        put-same i (row-after i t (seen (k .notes) (st .replica i) i) (k .row i)) (k .row),
-        put-same i (taken i (wire q t) (st .replica i)) (st .replica),
-        row-after-names i t (seen (k .notes) (st .replica i) i) (k .row i) j,
-        k .levels i j,
-      )
-      (sym (most-raised r i (reach i t (seen (k .notes) (st .replica i) i) j) _ _ below
-      (simp (taken-N, put-same, k .own i)
-      (level-suc i (length (k .notes i)) (k .notes i ++ t ∷ []) no-messages j (rw (length-append (k .notes i) (t ∷ [])) (omega arith))
-      ∙ simp (getD-append-seam, level-append i (length (k .notes i)) (k .notes i) t no-messages j (le-refl _), mark-append (length (k .notes i)) (k .notes i) t (le-refl _))))
-      (λ m d. simp (taken-N, put-other)))))
-      (λ d.
-      simp (put-other-row, put-other)
-      (k .levels n j
-      ∙ most-cong r _ _ (λ s m.
-      by-place s i
-      (λ e. rw (e, notes⁺) (sym (level-append i (st .replica n .N i) (k .notes i) t no-messages j (k .cards n .pairs i .within))))
-      (λ f. rw put-other))))
-
   issued-here : i < r → Ok r q (issued i (wire q t) st) (made i (item i t (seen (k .notes) (st .replica i) i)) l)
   unfolding issued made applied sent
   issued-here below = record {
@@ -200,7 +166,6 @@ module _ (r q : ℕ) (st : Chassis) (l : Ledger) (k : Ok r q st l) (i : ℕ) (t 
     own = own⁺;
     queues = queues⁺;
     outside = λ j m. rw (put-other i (k .notes i ++ t ∷ []) (k .notes) j (λ e. omega arith)) (k .outside j m);
-    levels = levels⁺ below;
   }
 
 -- as the steps use it: the message and the item are the note's
@@ -273,26 +238,9 @@ module _ (r q : ℕ) (st : Chassis) (l : Ledger) (k : Ok r q st l) (i s : ℕ) (
       (λ f. rw f (simp (put-other-row, N-here, put-other) (k .queues o i (λ c. far (f ∙ c)))))
       (λ f. simp (put-other-row, replica-there) (k .queues o j far)))
 
-  levels′ : s < r → (n j : ℕ)
-      → put i (row-after s turn (seen (k .notes) (st .replica i) s) (k .row i)) (k .row) n j .names ≡ level r (k .notes) (replica′ n .N) j
-  unfolding turn
-  levels′ below n j =
-      by-place n i
-      (λ e.
-      rw (
-        e,
-        put-same i (row-after s turn (seen (k .notes) (st .replica i) s) (k .row i)) (k .row),
-        row-after-names s turn (seen (k .notes) (st .replica i) s) (k .row i) j,
-        k .levels i j,
-      )
-      (sym (most-raised r s (reach s turn (seen (k .notes) (st .replica i) s) j) _ _ below
-      (simp (N-here, put-same) (level-suc s (st .replica i .N s) (k .notes s) no-messages j waits))
-      (λ m d. simp (N-here, put-other)))))
-      (λ d. simp (put-other-row, replica-there) (k .levels n j))
-
-  pub delivered-ok : s < r → Ok r q (delivered i s st) (handed i s l)
+  pub delivered-ok : Ok r q (delivered i s st) (handed i s l)
   unfolding delivered handed applied replica′
-  delivered-ok below = record {
+  delivered-ok = record {
     notes = k .notes;
     row = put i (row-after s turn (seen (k .notes) (st .replica i) s) (k .row i)) (k .row);
     logs = k .logs;
@@ -302,5 +250,4 @@ module _ (r q : ℕ) (st : Chassis) (l : Ledger) (k : Ok r q st l) (i s : ℕ) (
     own = own′;
     queues = queues′;
     outside = k .outside;
-    levels = levels′ below;
   }

@@ -1,15 +1,11 @@
--- Tables: functions from numbers, with one place changed; sums over the first so-many places. Assumes nothing.
-use Prim.Native.Nat.{ℕ, zero, suc, _+_, _^_, _≤_, _<_}
-use mathlib.Core.Path.{_≡_, refl, sym, ap, ap₂, _∙_}
-use mathlib.Core.Bool.{Bool, true, false, cond, _&&_}
+-- LAWS. Tables: functions from numbers with one place changed, and sums over the first so-many places (`Functions`).
+-- `put` is shut: after `by-place i k`, `simp put-at` and `simp put-other` find the case's fact themselves.
+use Prim.Native.Nat.{ℕ, zero, suc, _+_, _<_}
+use mathlib.Core.Path.{_≡_, refl, ap, ap₂, _∙_}
 use native.Mathlib.Omega.{arith}
-use lib.Dec.{eqb}
 use borrow.Author.Tests.{eq-eqb, ne-eqb}
 use Rattle.protocol.specs.Cases.{by-place}
-
--- `put k v f`: v at k, and f elsewhere. It is shut: after `by-place i k`, `simp put-at` and `simp put-other` find the case's fact themselves.
-unfoldable pub put {ℓ} : {A : Type ℓ} → ℕ → A → (ℕ → A) → ℕ → A
-put k v f i = cond (eqb i k) v (f i)
+unfoldable pub use Rattle.protocol.specs.Functions.{put, sum, bits}
 
 pub put-same {ℓ} : {A : Type ℓ} (k : ℕ) (v : A) (f : ℕ → A) → put k v f k ≡ v
 unfolding put
@@ -36,15 +32,6 @@ put-cases P k v f i a b = by-place i k (λ e. rw put-at (a e)) (λ d. rw put-oth
 -- a table that is v at k, and f elsewhere
 pub put-agrees {ℓ} : {A : Type ℓ} (k : ℕ) (v : A) (f g : ℕ → A) → g k ≡ v → ((i : ℕ) → (i ≡ k → ⊥) → g i ≡ f i) → (i : ℕ) → g i ≡ put k v f i
 put-agrees k v f g e h i = by-place i k (λ c. rw put-at (ap g c ∙ e)) (λ d. rw put-other (h i d))
-
--- f 0 + .. + f (n - 1)
-unfoldable pub sum : ℕ → (ℕ → ℕ) → ℕ
-sum zero f = 0
-sum (suc n) f = sum n f + f n
-
--- the number whose bit j is one if f j is true, for j below n
-unfoldable pub bits : ℕ → (ℕ → Bool) → ℕ
-bits n f = sum n (λ j. cond (f j) (2 ^ j) 0)
 
 pub sum-cong : (n : ℕ) (f g : ℕ → ℕ) → ((j : ℕ) → j < n → f j ≡ g j) → sum n f ≡ sum n g
 unfolding sum

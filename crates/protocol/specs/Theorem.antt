@@ -1,27 +1,26 @@
--- DEMAND 3. After any list of steps from a fresh chassis, reading any counter on any card gives the value and the holding cards of that
--- counter's ledger, which was fed the steps and which of them were accepted. Assumes nothing.
-use Prim.Native.Nat.{ℕ, zero, suc, _+_, _-_, _*_, _^_, _≤_, _<_}
+-- LAWS. The ledger theorem (document 01's demand 3). The invariant holds of a fresh chassis (`fresh-ok`), every step keeps it (`step-ok`), and it
+-- gives what a card reads (`value-is`, `holders-are`). So after any list of steps a card reads of a counter what that counter's ledger says.
+use Prim.Native.Nat.{ℕ, zero, suc, _^_, _≤_, _<_}
 use mathlib.Core.Path.{_≡_, refl, sym, ap, _∙_}
-use mathlib.Core.Bool.{Bool, true, false, not, cond, _&&_}
-use mathlib.Core.List.{List, [], _∷_, _++_, map}
+use mathlib.Core.Bool.{Bool, true, not, cond}
+use mathlib.Core.List.{List, [], _∷_, map}
 use native.Mathlib.Omega.{arith}
 use lib.Dec.{eqb, ltb}
-use lib.ListN.{length}
 use borrow.Author.Tests.{ltb-true, eqb-false, eq-eqb, ne-eqb, not-true}
 use Rattle.protocol.specs.Cases.{by-place, by-test, and-left, and-right}
 use Rattle.protocol.specs.Tables.{sum-cong, bits}
 use Rattle.protocol.specs.Entry.{absent}
-use Rattle.protocol.specs.Marks.{Mark, no-messages}
-use Rattle.protocol.specs.EntryLaws.{EntryOk, even, reads-value}
-use Rattle.protocol.specs.NameLaws.{Prefixes, Prefixes-empty, tally-is}
-use Rattle.protocol.specs.Ledger.{Step, count, clear, deliver, Ledger, nothing, empty-ledger, made, handed, entered, fed, kept, ledger-value, ledger-holders, count-item, clear-item}
-use Rattle.protocol.specs.Chassis.{Message, increment, clearing, Replica, Chassis, fresh-chassis, count-message, clear-message, issued, delivered, done, enabled, Offer, accepted, stepped, run, answers, read-value, read-holders}
-use Rattle.protocol.specs.Chain.{Note, other, wire, counter-of, mark-from, mark-at, OnChain}
+use Rattle.protocol.specs.Marks.{no-messages}
+use Rattle.protocol.specs.EntryLaws.{even, reads-value}
+use Rattle.protocol.specs.NameLaws.{Prefixes-empty, tally-is}
+use Rattle.protocol.specs.Ledger.{Step, count, clear, deliver, Ledger, nothing, empty-ledger, made, entered, fed, kept, ledger-value, ledger-holders, count-item, clear-item}
+use Rattle.protocol.specs.Chassis.{Replica, Chassis, fresh-chassis, count-message, clear-message, issued, done, enabled, Offer, accepted, stepped, run, answers, read-value, read-holders}
+use Rattle.protocol.specs.Chain.{other, counter-of, mark-from, mark-at}
 use Rattle.protocol.specs.Pairs.{PairOk}
-use Rattle.protocol.specs.Cards.{CardOk}
 use Rattle.protocol.specs.Makers.{count-note, count-sends, count-in-order, count-enters, clear-note, clear-sends, clear-in-order, clear-on, clear-enters, holds-is}
-use Rattle.protocol.specs.Levels.{level, level-from, most}
-use Rattle.protocol.specs.Steps.{Ok, items, issued-ok, delivered-ok}
+use Rattle.protocol.specs.Steps.{items, issued-ok, delivered-ok}
+pub use Rattle.protocol.specs.Steps.{Ok}
+pub use Rattle.protocol.specs.Runs.{step-of, after-run, ledger-after}
 
 -- ---- the fresh chassis
 
@@ -35,11 +34,6 @@ fresh-pair = record {
   entry = even refl refl refl refl;
 }
 
-fresh-level : (r j : ℕ) → 0 ≡ level r (λ s. []) (λ s. 0) j
-unfolding most level-from
-fresh-level zero j = refl
-fresh-level (suc r) j = let q = fresh-level r j in omega arith
-
 pub fresh-ok : (r q : ℕ) → Ok r q fresh-chassis empty-ledger
 unfolding mark-from items
 fresh-ok r q = record {
@@ -52,7 +46,6 @@ fresh-ok r q = record {
   own = λ i. refl;
   queues = λ s i d. refl;
   outside = λ j l. refl;
-  levels = λ i j. fresh-level r j;
 }
 
 -- ---- an accepted step
@@ -101,19 +94,16 @@ module _ (r q : ℕ) (st : Chassis) (l : Ledger) (k : Ok r q st l) where
       let e₂ = and-right (ltb s r) _ e₁ in
       let e₃ = not-true (eqb i s) (and-left (not (eqb i s)) _ e₂) in
       let e₄ = and-right (not (eqb i s)) (ltb (st .replica i .N s) (st .replica s .N s)) e₂ in
-      delivered-ok r q st l k i s (eqb-false i s e₃) (rw (← (k .own s)) (ltb-true (st .replica i .N s) (st .replica s .N s) e₄)) (ltb-true s r (and-left (ltb s r) _ e₁))
+      delivered-ok r q st l k i s (eqb-false i s e₃) (rw (← (k .own s)) (ltb-true (st .replica i .N s) (st .replica s .N s) e₄))
 
 -- ---- a list of steps
 
-step-ok : (r q : ℕ) (o : Offer) (st : Chassis) (l : Ledger) → Ok r q st l → Ok r q (stepped r o st) (fed r q (o .step) (accepted r o st) l)
+pub step-ok : (r q : ℕ) (o : Offer) (st : Chassis) (l : Ledger) → Ok r q st l → Ok r q (stepped r o st) (fed r q (o .step) (accepted r o st) l)
 unfolding stepped fed
 step-ok r q o st l k =
     by-test (accepted r o st)
     (λ e. rw e (done-ok r q st l k (o .step) (and-right (o .willing) (enabled r (o .step) st) e)))
     (λ e. rw e k)
-
-abbrev pub step-of : Offer → Step
-step-of o = o .step
 
 pub run-ok : (r q : ℕ) (os : List Offer) (st : Chassis) (l : Ledger) → Ok r q st l
     → Ok r q (run r os st) (kept r q (map step-of os) (answers r os st) l)
@@ -129,7 +119,7 @@ nothing-yet zero = refl
 nothing-yet (suc n) = refl
 
 module _ (r q : ℕ) (st : Chassis) (l : Ledger) (k : Ok r q st l) (i : ℕ) where
-  value-is : read-value r q (st .replica i) ≡ ledger-value i l
+  pub value-is : read-value r q (st .replica i) ≡ ledger-value i l
   unfolding read-value ledger-value
   value-is =
       sum-cong r _ _ (λ j below. reads-value _ _ (st .replica i .entry q j) (k .cards i .pairs j .entry))
@@ -138,25 +128,21 @@ module _ (r q : ℕ) (st : Chassis) (l : Ledger) (k : Ok r q st l) (i : ℕ) whe
       none : (j : ℕ) → r ≤ j → mark-at (st .replica i .N j) (k .notes j) .names ≡ 0
       none j far = rw (k .outside j far) (nothing-yet (st .replica i .N j))
 
-  holders-are : read-holders r q (st .replica i) ≡ ledger-holders r i l
+  pub holders-are : read-holders r q (st .replica i) ≡ ledger-holders r i l
   unfolding read-holders ledger-holders bits
   holders-are =
       sum-cong r _ _ (λ j below. ap (λ (t : Bool). cond t (2 ^ j) 0) (sym (holds-is q (k .notes) (k .valid) i (k .row i) (st .replica i) l (k .cards i) j)))
-
--- the chassis and the ledger of q after the list
-abbrev pub after-run : ℕ → List Offer → Chassis
-after-run r os = run r os fresh-chassis
-
-abbrev pub ledger-after : ℕ → ℕ → List Offer → Ledger
-ledger-after r q os = kept r q (map step-of os) (answers r os fresh-chassis) empty-ledger
 
 pub record Agrees (r q i : ℕ) (os : List Offer) : Type 0 where
   pub value : read-value r q (after-run r os .replica i) ≡ ledger-value i (ledger-after r q os)
   pub holders : read-holders r q (after-run r os .replica i) ≡ ledger-holders r i (ledger-after r q os)
 
+pub run-invariant : (r q : ℕ) (os : List Offer) → Ok r q (after-run r os) (ledger-after r q os)
+run-invariant r q os = run-ok r q os fresh-chassis empty-ledger (fresh-ok r q)
+
 pub ledger-theorem : (r q i : ℕ) (os : List Offer) → Agrees r q i os
 ledger-theorem r q i os =
-    let k = run-ok r q os fresh-chassis empty-ledger (fresh-ok r q) in
+    let k = run-invariant r q os in
     record {
       value = value-is r q (after-run r os) (ledger-after r q os) k i;
       holders = holders-are r q (after-run r os) (ledger-after r q os) k i;

@@ -1,3 +1,13 @@
 pub mod Number
 pub mod Message
+pub mod Ranges
+pub mod Lists
+pub mod NumberLaws
+pub mod RangeLaws
+pub mod EntriesLaws
+pub mod Bounds
+pub mod WriteLaws
+pub mod MessageLaws
+pub mod RoundTrips
+pub mod Claims
 pub mod Examples

@@ -1,5 +1,0 @@
-pub mod Parts
-pub mod Log
-pub mod Run
-pub mod Ledger
-pub mod Scenarios

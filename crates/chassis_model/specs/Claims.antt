@@ -1,0 +1,51 @@
+-- CLAIMS. What a user of a run relies on. Each has its sentence, its statement, and the law that proves it.
+--
+-- r cards, k counters, logs of L bytes, any list of steps, any words, log bytes and answers of the right sizes. `fresh-state r k L logs` is the state in which
+-- the run begins, `state-after` the one that a list of steps leaves, `ledger-of r q steps answers` counter q's ledger, fed the steps and which were accepted.
+use Prim.Native.Nat.{ℕ, _<_}
+use mathlib.Core.Path.{_≡_}
+use mathlib.Core.Bool.{true}
+use mathlib.Core.List.{List, _∷_, _++_, map}
+use lib.ListN.{length, getD}
+use Rattle.protocol.specs.Runs.{AllAlike}
+use Rattle.replica_model.specs.Layout.{replica-length}
+use Rattle.replica_model.specs.Calls.{read-on}
+use Rattle.chassis_model.specs.Parts.{part}
+use Rattle.chassis_model.specs.Run.{Step, state-after, answers-of, sizes-right, run-on}
+use Rattle.chassis_model.specs.Ledger.{ledger-step, ledger-of, ledger-reading}
+use Rattle.chassis_model.specs.Answers.{fresh-state, due-answer, run-answer}
+use Rattle.chassis_model.specs.Theorem as theorem
+
+-- DEMAND 3. After any list of steps, a read of any counter on any card is accepted and gives the value, the holding cards and their number of that counter's
+-- ledger, which was fed the list's steps and told which of them the run answered with 0. Every shorter list is a list too.
+pub ledger-theorem : (r k L : ℕ) (steps : List Step) (words logs answers : List ℕ) → sizes-right r k L (length steps) words logs answers ≡ true
+    → (i q : ℕ) → i < r → q < k
+    → let after = run-on r k L steps words logs answers in
+    read-on (part (replica-length r k) (after .words) i) q ≡ ledger-reading r i (ledger-of r q steps (after .answers))
+ledger-theorem = theorem.ledger-theorem
+
+-- EXACT ANSWERS. The answer of the step behind any first steps is the one that is due after them (`due-answer`): 12, 7, 3, 4, 14 and 13 exactly for their causes, and 0
+-- otherwise. So a deliver step between two cards is accepted exactly when the ledger's link, of whichever counter's ledger, has something to hand over.
+pub step-answers : (r k L : ℕ) (before : List Step) (s : Step) (after : List Step) (words logs answers : List ℕ)
+    → sizes-right r k L (length (before ++ s ∷ after)) words logs answers ≡ true
+    → (any : ℕ)
+    → getD (run-on r k L (before ++ s ∷ after) words logs answers .answers) (length before) 0
+    ≡ due-answer r k L any s (state-after r k L before (fresh-state r k L logs)) (λ q. ledger-of r q before (answers-of r k L before (fresh-state r k L logs)))
+step-answers = theorem.step-answers
+
+-- No step of a run answers anything but 0, 3, 4, 7, 12, 13 or 14.
+pub run-answers : (r k L : ℕ) (before : List Step) (s : Step) (after : List Step) (words logs answers : List ℕ)
+    → sizes-right r k L (length (before ++ s ∷ after)) words logs answers ≡ true
+    → run-answer (getD (run-on r k L (before ++ s ∷ after) words logs answers .answers) (length before) 0) ≡ true
+run-answers = theorem.run-answers
+
+-- ISOLATION. Two lists that got the same answers and differ only in which counters other than q their other counts and clears name (and which of the two they
+-- are) leave every card with the same read of q, whatever the words, the logs and their length were.
+pub isolation : (r k L L′ q : ℕ) (steps steps′ : List Step) (words words′ logs logs′ answers answers′ : List ℕ)
+    → sizes-right r k L (length steps) words logs answers ≡ true → sizes-right r k L′ (length steps′) words′ logs′ answers′ ≡ true
+    → AllAlike q (map ledger-step steps) (map ledger-step steps′)
+    → run-on r k L steps words logs answers .answers ≡ run-on r k L′ steps′ words′ logs′ answers′ .answers
+    → (i : ℕ) → i < r → q < k
+    → read-on (part (replica-length r k) (run-on r k L steps words logs answers .words) i) q
+    ≡ read-on (part (replica-length r k) (run-on r k L′ steps′ words′ logs′ answers′ .words) i) q
+isolation = theorem.isolation

@@ -1,0 +1,75 @@
+-- LAWS. The state in which a run begins: all replicas fresh, whatever the logs hold. It is the fresh chassis, with empty ledgers.
+use Prim.Native.Nat.{ℕ, zero, suc, _+_, _*_, _≤_, _<_}
+use mathlib.Core.Path.{_≡_, refl, _∙_}
+use mathlib.Core.List.{List, [], _++_}
+use native.Mathlib.Omega.{arith}
+use lib.ListN.{length}
+use lib.Seq.{take-all, drop-at}
+use Rattle.protocol.specs.Cases.{by-place}
+use Rattle.protocol.specs.Ledger.{empty-ledger}
+use Rattle.protocol.specs.Chassis.{fresh-chassis}
+use Rattle.protocol.specs.Theorem.{fresh-ok}
+use Rattle.replica_model.specs.Layout.{replica-length, fresh-words}
+use Rattle.replica_model.specs.Store.{fresh-shows}
+use Rattle.chassis_model.specs.Parts.{part}
+use Rattle.chassis_model.specs.PartLaws.{part-room, part-front}
+use Rattle.chassis_model.specs.Begin.{fresh-length}
+use Rattle.chassis_model.specs.Run.{replica-of, log-of, fresh-replicas}
+use Rattle.chassis_model.specs.LogLaws.{log-bytes}
+use Rattle.chassis_model.specs.Numbered.{numbered, wire-log}
+pub use Rattle.chassis_model.specs.Answers.{fresh-state}
+use Rattle.chassis_model.specs.Matches.{Sizes, Heads, Holds, Alike, Matches}
+use Rattle.chassis_model.specs.Moves.{alike-same}
+
+-- ---- the parts of the fresh words
+
+module _ (r k : ℕ) where
+  -- the last of n + 1 parts
+  last-part : (n : ℕ) → part (replica-length r k) (fresh-replicas r k n ++ fresh-words r k n) n ≡ fresh-words r k n
+  unfolding part
+  last-part n =
+      rw (drop-at (fresh-replicas r k n) (fresh-words r k n) (n * replica-length r k) (fresh-length r k n))
+      (take-all (replica-length r k) (fresh-words r k n) (let e = fresh-shows r k n .fits in omega arith))
+
+  fresh-part : (n i : ℕ) → i < n → part (replica-length r k) (fresh-replicas r k n) i ≡ fresh-words r k i
+  unfolding fresh-replicas
+  fresh-part zero i l = absurd (omega arith)
+  fresh-part (suc n) i l =
+      by-place i n
+      (λ e. rw e (last-part n))
+      (λ d.
+      let m : i < n = omega arith in
+      let room : i * replica-length r k + replica-length r k ≤ length (fresh-replicas r k n) = rw (fresh-length r k n) (part-room i n (replica-length r k) m) in
+      part-front (replica-length r k) i (fresh-replicas r k n) (fresh-words r k n) room ∙ fresh-part n i m)
+
+-- ---- the state
+
+fresh-heads : (r k i : ℕ) → Heads r k i (fresh-words r k i)
+unfolding fresh-words
+fresh-heads r k i = record { cards-are = refl; counters-are = refl; own-is = refl }
+
+-- a log in which nothing was written
+fresh-holds : (j : ℕ) (log : List ℕ) → Holds log (wire-log j [])
+unfolding numbered log-bytes
+fresh-holds j log = record { rest = log; bytes = refl; readable = λ n l. absurd (omega arith) }
+
+fresh-alike : (r k : ℕ) (logs : ℕ → List ℕ) → Alike r k (fresh-words r k) logs fresh-chassis
+fresh-alike r k logs = record {
+  heads = λ i l. fresh-heads r k i;
+  shows = λ i l. fresh-shows r k i;
+  holds = λ j l. fresh-holds j (logs j);
+  sendable = λ j l n m. absurd (omega arith);
+  few = λ j l. omega arith;
+}
+
+pub fresh-matches : (r k L : ℕ) (logs : List ℕ) → Sizes r k → length logs ≡ r * L
+    → Matches r k L (fresh-state r k L logs) fresh-chassis (λ q. empty-ledger)
+fresh-matches r k L logs z fits = record {
+  sizes = z;
+  words-fit = fresh-length r k r;
+  logs-fit = fits;
+  alike =
+      alike-same r k (fresh-words r k) (replica-of r k L (fresh-state r k L logs)) (log-of r k L (fresh-state r k L logs)) (log-of r k L (fresh-state r k L logs))
+      fresh-chassis (λ i l. fresh-part r k r i l) (λ j l. refl) (fresh-alike r k (log-of r k L (fresh-state r k L logs)));
+  oks = λ q. fresh-ok r q;
+}

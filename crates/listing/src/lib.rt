@@ -1,1 +1,0 @@
-// The listing of a run: what every card reads of every counter, as RFC 4180 text.

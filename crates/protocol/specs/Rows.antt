@@ -1,0 +1,36 @@
+-- DEFINITIONS. What a card asks before it accepts: a well-formed row (refusal 2) and a plausible message (refusal 10).
+-- `most` is MAX in document 01. Amounts are 1 there: then `C s + w` is "C[j] + 1", and `w < p` says that p is not 1.
+use Prim.Native.Nat.{ℕ, _+_, _≤_, _<_}
+use mathlib.Core.Path.{_≡_}
+use mathlib.Core.Bool.{true, false}
+use mathlib.Core.List.{List, [], _∷_}
+use Rattle.protocol.specs.Entry.{Entry}
+use Rattle.protocol.specs.Chassis.{Message, increment, clearing, ClearEntry, Replica}
+
+-- "each entry of the counter is absent or has 1 <= p <= c <= MAX and n <= p": where p is 0, all three numbers are
+pub record WellFormed (most : ℕ) (e : Entry) : Type 0 where
+  pub n≤p : e .n ≤ e .p
+  pub p≤c : e .p ≤ e .c
+  pub c≤most : e .c ≤ most
+  pub absent-whole : e .p ≡ 0 → e .c ≡ 0
+
+-- Document 01's "sound": counter q's row in the replica b of card i.
+pub record WellFormedRow (most i q : ℕ) (b : Replica) : Type 0 where
+  -- "A row is sound when all C[j] <= N[j] <= MAX"
+  pub C≤N : (j : ℕ) → b .C j ≤ b .N j
+  pub N≤most : (j : ℕ) → b .N j ≤ most
+  -- "and each entry of the counter is absent or has 1 <= p <= c <= MAX and n <= p"
+  pub entries : (j : ℕ) → WellFormed most (b .entry q j)
+  -- "and the card's own entry has c <= its own C."
+  pub own : b .entry q i .c ≤ b .C i
+
+-- "Implausible: .. a clear whose entry for the receiving card or for the sender has c above the receiver's C of that card."
+-- i receives, s sends, and C is i's.
+abbrev pub PlausibleEntries : ℕ → ℕ → (ℕ → ℕ) → List ClearEntry → Type 0
+PlausibleEntries i s C [] = Unit {0}
+PlausibleEntries i s C (t ∷ ts) = ((t .card ≡ i → t .c ≤ C i) × (t .card ≡ s → t .c ≤ C s)) × PlausibleEntries i s C ts
+
+-- "Implausible: an increment with p > C[j] + 1, with start and p other than C[j] + 1, or without start and p = 1"
+abbrev pub Plausible : ℕ → ℕ → (ℕ → ℕ) → Message → Type 0
+Plausible i s C (increment q w p start) = (p ≤ C s + w) × (start ≡ true → p ≡ C s + w) × (start ≡ false → w < p)
+Plausible i s C (clearing q ts) = PlausibleEntries i s C ts

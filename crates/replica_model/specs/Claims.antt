@@ -1,0 +1,220 @@
+-- CLAIMS. What a caller of open, read, count, clear and take relies on, beyond each call's own equation (`Calls`). The terms are those of `Terms`.
+use Prim.Native.Nat.{ℕ, _+_, _*_, _≤_, _<_}
+use mathlib.Core.Path.{_≡_, refl}
+use mathlib.Core.Logic.{_≢_, _↔_}
+use mathlib.Core.List.{List}
+use mathlib.Core.Bool.{true, false}
+use native.Mathlib.Omega.{arith}
+use lib.ListN.{length}
+use lib.Dec.{ltb}
+use Rattle.protocol.specs.Limits.{MAX, unreadable, repeated, early}
+use Rattle.protocol.specs.Cases.{by-place}
+use Rattle.protocol.specs.Chassis.{count-message, clear-message}
+use Rattle.protocol.specs.Stores.{shown}
+use Rattle.wire.specs.Message as form
+use Rattle.wire.specs.Message.{increment-message, message-at, message-bytes, over}
+use Rattle.replica_model.specs.Layout.{cards, counters, own-card, replica-length, N-of, entry-of, fresh-words}
+use Rattle.replica_model.specs.Calls.{right, row-well-formed, open-on, no-reading, reading, read-on, not-sent, count-on, clear-on, not-taken, content, take-on}
+use Rattle.replica_model.specs.Terms.{OpenSizes, Right, RowOf, Decided, open-checks, read-checks, count-checks, clear-checks, take-checks, holders, count-of, clear-of, sent-as, sent-with, taken-with, Performed, OnlyMoves, Keeps, Isolates, Writable, Addressed}
+use Rattle.replica_model.specs.RowLaws.{right-facts, right-from, row-facts, row-from}
+use Rattle.replica_model.specs.Exact.{present-length, open-decided, read-decided, count-decided, clear-decided, take-decided}
+use Rattle.replica_model.specs.Fresh.{fresh-right, fresh-row, sizes-opened, fresh-read, fresh-count, fresh-clear, fresh-take}
+use Rattle.replica_model.specs.Senders.{count-writable, clear-writable}
+use Rattle.replica_model.specs.Order.{again-refused, old-refused, early-refused}
+use Rattle.replica_model.specs.Accepted.{sending-from, count-move, clear-move, take-move, move-keeps, move-moves, move-isolates, unmoved-keeps, unmoved-isolates}
+
+-- ---- WELL-FORMED, in plain numbers
+
+-- A replica is right exactly if its sizes are 1 to 16 and 1 to 64, the own card is one of its cards and it is as long as those sizes ask.
+pub right-is : (b : List ℕ) → (right b ≡ true) ↔ Right b
+right-is b = (right-facts b, right-from b)
+
+-- A row is well-formed exactly if every C ≤ N ≤ MAX, every entry is absent (all zero) or has 1 ≤ p ≤ c ≤ MAX and n ≤ p, and the own entry's c is at most the own C.
+pub row-well-formed-is : (b : List ℕ) (q : ℕ) → (row-well-formed b q ≡ true) ↔ RowOf b q
+row-well-formed-is b q = (row-facts b q, row-from b q)
+
+-- ---- WELL-FORMEDNESS IS KEPT
+
+-- A fresh replica is right and well-formed in every row.
+pub fresh-well-formed : (r k own : ℕ) → OpenSizes r k own
+    → (right (fresh-words r k own) ≡ true) × ((q : ℕ) → q < k → row-well-formed (fresh-words r k own) q ≡ true)
+fresh-well-formed r k own s =
+    (right-from (fresh-words r k own) (fresh-right r k own s), λ q hq. row-from (fresh-words r k own) q (fresh-row r k own q (s .own-below) hq))
+
+-- Whatever count answers, a right replica stays right and every well-formed row stays well-formed: the counter's own and the others.
+pub count-keeps : (b : List ℕ) (q : ℕ) (out : List ℕ) → Keeps b (count-on b q out .words)
+count-keeps b q out =
+    by-place (count-on b q out .answer .number) 0
+    (λ h. move-keeps b q _ _ _ (count-move b q out h))
+    (λ d. rw (count-decided b q out .refused d) (unmoved-keeps b))
+
+-- Whatever clear answers, a right replica stays right and every well-formed row stays well-formed.
+pub clear-keeps : (b : List ℕ) (q : ℕ) (out : List ℕ) → Keeps b (clear-on b q out .words)
+clear-keeps b q out =
+    by-place (clear-on b q out .answer .number) 0
+    (λ h. move-keeps b q _ _ _ (clear-move b q out h))
+    (λ d. rw (clear-decided b q out .refused d) (unmoved-keeps b))
+
+-- Whatever bytes are taken, a right replica stays right and every well-formed row stays well-formed.
+pub take-keeps : (b bytes : List ℕ) → Keeps b (take-on b bytes .words)
+take-keeps b bytes =
+    by-place (take-on b bytes .answer .number) 0
+    (λ h. move-keeps b _ _ _ _ (take-move b bytes h))
+    (λ d. rw (take-decided b bytes .refused d) (unmoved-keeps b))
+
+-- ---- ALGORITHM 1
+
+-- An accepted count is Algorithm 1's: the own replica takes the increment that the generator returns, seen through every accessor.
+pub count-performs : (b : List ℕ) (q : ℕ) (out : List ℕ) → count-on b q out .answer .number ≡ 0 → Performed b (own-card b) (count-of b q) (count-on b q out .words)
+count-performs b q out h = count-move b q out h .performed
+
+-- An accepted clear is Algorithm 1's: the own replica takes the clear that the generator returns.
+pub clear-performs : (b : List ℕ) (q : ℕ) (out : List ℕ) → clear-on b q out .answer .number ≡ 0 → Performed b (own-card b) (clear-of b q) (clear-on b q out .words)
+clear-performs b q out h = clear-move b q out h .performed
+
+-- An accepted take is Algorithm 1's effector for what the bytes say, from the sender that they name.
+pub take-performs : (b bytes : List ℕ) → take-on b bytes .answer .number ≡ 0
+    → let m = message-at bytes in Performed b (m .sender) (content m) (take-on b bytes .words)
+take-performs b bytes h = take-move b bytes h .performed
+
+-- The message that an accepted count sends is the one that the generator returns, numbered N + 1, in 36 bytes; the output behind it stays.
+pub count-sends : (b : List ℕ) (q : ℕ) (out : List ℕ) → count-on b q out .answer .number ≡ 0
+    → (count-on b q out .answer ≡ record { number = 0; sequence = N-of (cards b) b (own-card b) + 1; length = 36 })
+    × (count-on b q out .out ≡ over (message-bytes (sent-as b (count-of b q))) out)
+unfolding count-message increment-message
+count-sends b q out h = rw (count-decided b q out .accepted h) (refl, refl)
+
+-- The message that an accepted clear sends is the one that the generator returns, numbered N + 1, in 28 bytes and 20 for each present entry; the output behind it stays.
+pub clear-sends : (b : List ℕ) (q : ℕ) (out : List ℕ) → clear-on b q out .answer .number ≡ 0
+    → (clear-on b q out .answer ≡ record { number = 0; sequence = N-of (cards b) b (own-card b) + 1; length = 28 + 20 * holders b q })
+    × (clear-on b q out .out ≡ over (message-bytes (sent-as b (clear-of b q))) out)
+unfolding clear-message form.clear-message shown
+clear-sends b q out h = rw (clear-decided b q out .accepted h) (rw (present-length (cards b) (entry-of (cards b) b q)), refl)
+
+-- After an accepted count the own N and the own C are one more; no other C or N moves, and no entry but the own one of the counter.
+pub count-moves : (b : List ℕ) (q : ℕ) (out : List ℕ) → count-on b q out .answer .number ≡ 0 → OnlyMoves b (own-card b) (count-of b q) (count-on b q out .words)
+count-moves b q out h = move-moves b q _ _ _ (count-move b q out h)
+
+-- After an accepted clear the own N is one more; no C and no other N moves, and no entry but those of the counter that the clear names.
+pub clear-moves : (b : List ℕ) (q : ℕ) (out : List ℕ) → clear-on b q out .answer .number ≡ 0 → OnlyMoves b (own-card b) (clear-of b q) (clear-on b q out .words)
+clear-moves b q out h = move-moves b q _ _ _ (clear-move b q out h)
+
+-- After an accepted take the sender's N is one more, and its C if it was an increment; no other C or N moves, and no entry but those of the counter that the message names.
+pub take-moves : (b bytes : List ℕ) → take-on b bytes .answer .number ≡ 0
+    → let m = message-at bytes in OnlyMoves b (m .sender) (content m) (take-on b bytes .words)
+take-moves b bytes h = move-moves b _ _ _ _ (take-move b bytes h)
+
+-- ---- MESSAGES THAT COUNT AND CLEAR WRITE
+
+-- Where count makes a message, it is in range, it is 36 bytes long, and its bytes read as it: a message of 6 cannot come out of count.
+pub count-message-writable : (b : List ℕ) (q : ℕ) → right b ≡ true → q < counters b → row-well-formed b q ≡ true → N-of (cards b) b (own-card b) ≢ MAX
+    → Writable (sent-as b (count-of b q)) 36
+count-message-writable b q h l w d = count-writable b q (sending-from b q h l w d)
+
+-- Where clear makes a message, it is in range, it is 28 bytes long and 20 for each present entry, 348 at most, and its bytes read as it: nor out of clear.
+pub clear-message-writable : (b : List ℕ) (q : ℕ) → right b ≡ true → q < counters b → row-well-formed b q ≡ true → N-of (cards b) b (own-card b) ≢ MAX
+    → Writable (sent-as b (clear-of b q)) (28 + 20 * holders b q)
+clear-message-writable b q h l w d = clear-writable b q (sending-from b q h l w d)
+
+-- Number 6 is never given by count or clear.
+pub never-unreadable : (b : List ℕ) (q : ℕ) (out : List ℕ) → (count-on b q out .answer .number ≢ unreadable) × (clear-on b q out .answer .number ≢ unreadable)
+never-unreadable b q out = (
+  λ h. let z = count-decided b q out .exact unreadable .0 h .1 .1 .1 .1 .1 in omega arith,
+  λ h. let z = clear-decided b q out .exact unreadable .0 h .1 .1 .1 .1 .1 in omega arith,
+)
+
+-- ---- EVERY REFUSAL IS EXACT
+-- `Decided`: the call gives a number if and only if its cause holds and no earlier one does, 0 if and only if none does; refused, it is that number with zeros and
+-- everything as it was; accepted, it is the result.
+
+-- Open gives 1 or the fresh replica, and is exact.
+pub open-exact : (b : List ℕ) (r k own : ℕ)
+    → Decided (λ o. o .number) (λ n. record { number = n; words = b }) (open-checks b r k own) (record { number = 0; words = fresh-words r k own }) (open-on b r k own)
+open-exact = open-decided
+
+-- Read gives 1, 3, 2 in that order or the counter's reading, and is exact.
+pub read-exact : (b : List ℕ) (q : ℕ) → Decided (λ o. o .number) no-reading (read-checks b q) (reading b q) (read-on b q)
+read-exact = read-decided
+
+-- Count gives 1, 3, 2, 4, 5 in that order or sends Algorithm 1's increment, and is exact.
+pub count-exact : (b : List ℕ) (q : ℕ) (out : List ℕ)
+    → Decided (λ o. o .answer .number) (λ n. not-sent n b out) (count-checks b q out) (sent-with b out (count-of b q)) (count-on b q out)
+count-exact = count-decided
+
+-- Clear gives 1, 3, 2, 4, 5 in that order or sends Algorithm 1's clear, and is exact.
+pub clear-exact : (b : List ℕ) (q : ℕ) (out : List ℕ)
+    → Decided (λ o. o .answer .number) (λ n. not-sent n b out) (clear-checks b q out) (sent-with b out (clear-of b q)) (clear-on b q out)
+clear-exact = clear-decided
+
+-- Take gives 1, 6, 3, 2, 7, 8, 9, 10 in that order or applies the message, and is exact.
+pub take-exact : (b bytes : List ℕ)
+    → Decided (λ o. o .answer .number) (λ n. not-taken n b) (take-checks b bytes) (taken-with b (message-at bytes)) (take-on b bytes)
+take-exact = take-decided
+
+-- What `exact` says, read at one number: count gives 3 exactly where the replica is right and the counter is not below k.
+pub count-gives-3 : (b : List ℕ) (q : ℕ) (out : List ℕ) → (count-on b q out .answer .number ≡ 3) ↔ ((right b ≡ true) × (ltb q (counters b) ≡ false))
+count-gives-3 b q out = count-decided b q out .exact 3
+
+-- And at 0: read answers exactly where the replica is right, the counter is below k and its row is well-formed.
+pub read-gives-0 : (b : List ℕ) (q : ℕ) → (read-on b q .number ≡ 0) ↔ ((right b ≡ true) × ((ltb q (counters b) ≡ true) × ((row-well-formed b q ≡ true) × (_≡_ {A = ℕ} 0 0))))
+read-gives-0 b q = read-decided b q .exact 0
+
+-- ---- NO CALL ONLY DECLINES
+
+-- Open accepts every right size.
+pub open-accepts : (b : List ℕ) (r k own : ℕ) → OpenSizes r k own → length b ≡ replica-length r k → open-on b r k own .number ≡ 0
+open-accepts = sizes-opened
+
+-- Read accepts every counter of every fresh replica.
+pub read-accepts : (r k own q : ℕ) → OpenSizes r k own → q < k → read-on (fresh-words r k own) q .number ≡ 0
+read-accepts = fresh-read
+
+-- Count accepts every counter of every fresh replica, into 36 bytes or more.
+pub count-accepts : (r k own q : ℕ) → OpenSizes r k own → q < k → (out : List ℕ) → 36 ≤ length out → count-on (fresh-words r k own) q out .answer .number ≡ 0
+count-accepts = fresh-count
+
+-- Clear accepts every counter of every fresh replica, into 28 bytes or more.
+pub clear-accepts : (r k own q : ℕ) → OpenSizes r k own → q < k → (out : List ℕ) → 28 ≤ length out → clear-on (fresh-words r k own) q out .answer .number ≡ 0
+clear-accepts = fresh-clear
+
+-- Take accepts any other card's first increment on any counter of a fresh replica.
+pub take-accepts : (r k own q : ℕ) → OpenSizes r k own → q < k → (j : ℕ) → j < r → j ≢ own
+    → take-on (fresh-words r k own) (message-bytes (increment-message j 1 q 1 1)) .answer .number ≡ 0
+take-accepts = fresh-take
+
+-- ---- ISOLATION
+
+-- Whatever count on counter q answers, every other row keeps its words, and read its whole answer for every other counter whose row was well-formed.
+pub count-isolates : (b : List ℕ) (q : ℕ) (out : List ℕ) → Isolates b q (count-on b q out .words)
+count-isolates b q out =
+    by-place (count-on b q out .answer .number) 0
+    (λ h. move-isolates b q _ _ _ (count-move b q out h))
+    (λ d. rw (count-decided b q out .refused d) (unmoved-isolates b q))
+
+-- Whatever clear on counter q answers, every other row keeps its words, and read its whole answer for every other counter whose row was well-formed.
+pub clear-isolates : (b : List ℕ) (q : ℕ) (out : List ℕ) → Isolates b q (clear-on b q out .words)
+clear-isolates b q out =
+    by-place (clear-on b q out .answer .number) 0
+    (λ h. move-isolates b q _ _ _ (clear-move b q out h))
+    (λ d. rw (clear-decided b q out .refused d) (unmoved-isolates b q))
+
+-- Whatever take answers to bytes on counter q, every other row keeps its words, and read its whole answer for every other counter whose row was well-formed.
+pub take-isolates : (b bytes : List ℕ) → Isolates b (message-at bytes .counter) (take-on b bytes .words)
+take-isolates b bytes =
+    by-place (take-on b bytes .answer .number) 0
+    (λ h. move-isolates b _ _ _ _ (take-move b bytes h))
+    (λ d. rw (take-decided b bytes .refused d) (unmoved-isolates b (message-at bytes .counter)))
+
+-- ---- ORDER AND REPEATS
+
+-- A message taken twice is refused the second time with 8, and nothing moves.
+pub take-twice : (b bytes : List ℕ) → take-on b bytes .answer .number ≡ 0 → take-on (take-on b bytes .words) bytes ≡ not-taken repeated (take-on b bytes .words)
+take-twice = again-refused
+
+-- A message at or below N of its sender is refused with 8, and nothing moves.
+pub take-late : (b bytes : List ℕ) → Addressed b bytes → message-at bytes .sequence ≤ N-of (cards b) b (message-at bytes .sender) → take-on b bytes ≡ not-taken repeated b
+take-late = old-refused
+
+-- A message above N + 1 of its sender is refused with 9, and nothing moves.
+pub take-early : (b bytes : List ℕ) → Addressed b bytes → N-of (cards b) b (message-at bytes .sender) + 1 < message-at bytes .sequence → take-on b bytes ≡ not-taken early b
+take-early = early-refused

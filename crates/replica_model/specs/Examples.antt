@@ -1,0 +1,75 @@
+-- CLAIMS. Document 01's orders of a single card ("Orders from the bench"), computed on the calls' definitions.
+use Prim.Native.Nat.{ℕ, zero, suc, _+_, _*_}
+use mathlib.Core.Path.{_≡_, refl}
+use mathlib.Core.List.{List, [], _∷_, _++_}
+use mathlib.Core.Bool.{Bool, true, false, _&&_}
+use lib.ListN.{length, replicate, take}
+use lib.Dec.{eqb}
+use Rattle.protocol.specs.Tables.{put, sum, bits}
+use Rattle.protocol.specs.Entry.{incremented, cleared}
+use Rattle.protocol.specs.Chassis.{count-message, present-entries, clear-message, read-value, read-holders}
+use Rattle.protocol.specs.Stores.{cleared-words, taken-words, shown}
+use Rattle.wire.specs.Number.{number-at, bytes-of}
+use Rattle.wire.specs.Message as form
+use Rattle.wire.specs.Message.{header-bytes, increment-bytes, entry-bytes, entries-bytes, clear-bytes, message-bytes, header-in-range, increment-in-range, clear-in-range, entry-in-range, entries-in-range, unused, in-range, increment-message, entries-at, called-length, message-at, reads}
+use Rattle.replica_model.specs.Layout.{C-of, N-of, entry-of, fresh-words}
+use Rattle.replica_model.specs.Calls.{sizes-in-range, right, all-below, count-below, entry-well-formed, card-well-formed, row-well-formed, open-on, reading, read-on, sent, sending, count-on, clear-on, content, all-entries, cards-known, increment-implausible, entry-plausible, plausible, taking, take-on}
+
+room : ℕ → List ℕ
+room n = replicate n 0
+
+-- card 1 of two, with two counters: what it answers to card 0's first increment with another sequence
+answer-to : List ℕ → ℕ → ℕ
+answer-to b sequence = take-on b (message-bytes (increment-message 0 sequence 0 1 1)) .answer .number
+
+-- "Clear on a fresh book: 28 bytes, N 1, C 0."
+clear-on-fresh : Bool
+clear-on-fresh =
+    let b = fresh-words 2 2 0 in
+    let done = clear-on b 0 (room 40) in
+    eqb (done .answer .number) 0 && eqb (done .answer .length) 28 && eqb (N-of 2 (done .words) 0) 1 && eqb (C-of (done .words) 0) 0
+
+-- "Fresh book, in turn: sequence 0 is 6, 2 is 9, 1 taken, 1 again is 8."
+sequences : Bool
+sequences =
+    let b = fresh-words 2 2 1 in
+    let taken = take-on b (message-bytes (increment-message 0 1 0 1 1)) in
+    eqb (answer-to b 0) 6 && eqb (answer-to b 2) 9 && eqb (taken .answer .number) 0 && eqb (answer-to (taken .words) 1) 8
+
+-- "35 output bytes: 5; 36: accepted."
+output-lengths : Bool
+output-lengths =
+    let b = fresh-words 2 2 0 in
+    eqb (count-on b 0 (room 35) .answer .number) 5 && eqb (count-on b 0 (room 36) .answer .number) 0
+
+-- "k = 64 accepted, 65 is 1."
+counter-limits : Bool
+counter-limits =
+    let b = room (3 + 2 + 3 * 64) in
+    let c = room (3 + 2 + 3 * 65) in
+    eqb (open-on b 1 64 0 .number) 0 && eqb (open-on c 1 65 0 .number) 1
+
+-- "(1,0,0) (1,0,0) (1,0,1): counter 1 has (3,2,3), value 1."
+third-count : Bool
+third-count =
+    let b = count-on (fresh-words 2 2 0) 0 (room 36) .words in
+    let c = count-on b 0 (room 36) .words in
+    let d = count-on c 1 (room 36) .words in
+    let e = entry-of 2 d 1 0 in
+    eqb (e .p) 3 && eqb (e .n) 2 && eqb (e .c) 3 && eqb (read-on d 1 .value) 1
+
+-- "(1,0,0) (2,0,0) (1,0,0): (2,1,2), value 1."
+count-clear-count : Bool
+count-clear-count =
+    let b = count-on (fresh-words 2 2 0) 0 (room 36) .words in
+    let c = clear-on b 0 (room 48) .words in
+    let d = count-on c 0 (room 36) .words in
+    let e = entry-of 2 d 0 0 in
+    eqb (e .p) 2 && eqb (e .n) 1 && eqb (e .c) 2 && eqb (read-on d 0 .value) 1
+
+pub all-examples : Bool
+all-examples = clear-on-fresh && sequences && output-lengths && counter-limits && third-count && count-clear-count
+
+pub examples-hold : all-examples ≡ true
+unfolding all-examples clear-on-fresh sequences output-lengths counter-limits third-count count-clear-count answer-to room sizes-in-range right all-below count-below entry-well-formed card-well-formed row-well-formed open-on reading read-on sent sending count-on clear-on content all-entries cards-known increment-implausible entry-plausible plausible taking take-on fresh-words header-bytes increment-bytes entry-bytes entries-bytes clear-bytes message-bytes header-in-range increment-in-range clear-in-range entry-in-range entries-in-range unused in-range increment-message entries-at called-length message-at reads number-at bytes-of cleared-words taken-words shown count-message present-entries clear-message read-value read-holders put sum bits incremented cleared form.clear-message
+examples-hold = refl

@@ -1,0 +1,17 @@
+-- The layout and its laws; what each call does; its orders, computed.
+pub mod Layout
+pub mod Store
+pub mod Calls
+pub mod Examples
+-- Laws: tests and plain facts, refusals, what a message does, what a card sends and takes.
+pub mod Terms
+pub mod RowLaws
+pub mod Exact
+pub mod Kept
+pub mod Performed
+pub mod Fresh
+pub mod Senders
+pub mod Receivers
+pub mod Accepted
+pub mod Order
+pub mod Claims

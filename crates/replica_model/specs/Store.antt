@@ -1,0 +1,154 @@
+-- LAWS. The layout is a store (`layout`): what each accessor finds after each setter. Everything above uses these laws and no offset.
+use Prim.Native.Nat.{ℕ, zero, suc, _+_, _-_, _*_, _≤_, _<_}
+use mathlib.Core.Path.{_≡_, refl, sym, ap, _∙_}
+use mathlib.Core.Logic.{_≢_}
+use mathlib.Core.List.{List, [], _∷_, _++_}
+use native.Mathlib.Nat.{mul-le-mul-right}
+use native.Mathlib.Omega.{arith}
+use lib.ListN.{length, getD, set, replicate, length-set, length-append, length-replicate}
+use lib.Seq.{getD-set-same, getD-set-other, getD-append-add}
+use Rattle.protocol.specs.Cases.{by-place, by-le}
+use Rattle.protocol.specs.Tables.{put, put-same, put-other, put-same-row, put-other-row}
+use Rattle.protocol.specs.declared.Entry.{Entry}
+use Rattle.protocol.specs.Chassis.{fresh-replica}
+use Rattle.protocol.specs.Stores.{Store, Shows}
+use Rattle.replica_model.specs.Layout.{head, replica-length, at-C, at-N, cell, at-entry, C-of, N-of, entry-from, entry-of, set-C, set-N, three, set-entry, fresh-words}
+
+-- ---- which entry is where: the one place with products
+
+pub cell-below : (r k q j : ℕ) → q < k → j < r → cell r q j < r * k
+cell-below r k q j hq hj = omega (arith, mul-le-mul-right r hq)
+
+-- a later counter's entries stand behind
+cell-later : (r q j q′ j′ : ℕ) → q < q′ → j < r → cell r q j < cell r q′ j′
+cell-later r q j q′ j′ hq hj = omega (arith, mul-le-mul-right r hq)
+
+cell-apart : (r q j q′ j′ : ℕ) → j < r → j′ < r → (q′ ≡ q → j′ ≡ j → ⊥) → cell r q′ j′ ≢ cell r q j
+cell-apart r q j q′ j′ hj hj′ d e =
+    by-le (suc q′) q (λ l. omega (arith, cell-later r q′ j′ q j l hj′))
+    (λ l. by-le (suc q) q′ (λ l′. omega (arith, cell-later r q j q′ j′ l′ hj))
+    (λ l′. let h : q′ ≡ q = omega arith in d h (let m = ap (λ (x : ℕ). x * r) h in omega arith)))
+
+-- ---- three words in a row
+
+pub three-length : (ws : List ℕ) (a x y z : ℕ) → length (three ws a x y z) ≡ length ws
+three-length ws a x y z = simp length-set
+
+three-0 : (ws : List ℕ) (a x y z : ℕ) → a + 2 < length ws → getD (three ws a x y z) a 0 ≡ x
+three-0 ws a x y z h =
+    getD-set-other (set (set ws a x) (a + 1) y) (a + 2) a z 0 (λ e. omega arith)
+    ∙ getD-set-other (set ws a x) (a + 1) a y 0 (λ e. omega arith)
+    ∙ getD-set-same ws a x 0 (omega arith)
+
+three-1 : (ws : List ℕ) (a x y z : ℕ) → a + 2 < length ws → getD (three ws a x y z) (a + 1) 0 ≡ y
+three-1 ws a x y z h =
+    getD-set-other (set (set ws a x) (a + 1) y) (a + 2) (a + 1) z 0 (λ e. omega arith)
+    ∙ getD-set-same (set ws a x) (a + 1) y 0 (simp length-set (omega arith))
+
+three-2 : (ws : List ℕ) (a x y z : ℕ) → a + 2 < length ws → getD (three ws a x y z) (a + 2) 0 ≡ z
+three-2 ws a x y z h = getD-set-same (set (set ws a x) (a + 1) y) (a + 2) z 0 (simp length-set (omega arith))
+
+three-far : (ws : List ℕ) (a x y z i : ℕ) → i ≢ a → i ≢ a + 1 → i ≢ a + 2 → getD (three ws a x y z) i 0 ≡ getD ws i 0
+three-far ws a x y z i d d₁ d₂ =
+    getD-set-other (set (set ws a x) (a + 1) y) (a + 2) i z 0 d₂
+    ∙ getD-set-other (set ws a x) (a + 1) i y 0 d₁
+    ∙ getD-set-other ws a i x 0 d
+
+-- ---- what each accessor finds after each setter
+
+same-entry : {p n c p′ n′ c′ : ℕ} → p ≡ p′ → n ≡ n′ → c ≡ c′ → _≡_ {A = Entry} (record { p = p; n = n; c = c }) (record { p = p′; n = n′; c = c′ })
+same-entry a b d = λ i. record { p = a i; n = b i; c = d i }
+
+module _ (r k : ℕ) where
+  pub entry-entry : (q j : ℕ) (e : Entry) (ws : List ℕ) → length ws ≡ replica-length r k → q < k → j < r → (q′ j′ : ℕ) → q′ < k → j′ < r
+      → entry-of r (set-entry r q j e ws) q′ j′ ≡ put q (put j e (entry-of r ws q)) (entry-of r ws) q′ j′
+  entry-entry q j e ws fits hq hj q′ j′ hq′ hj′ =
+      by-place q′ q
+      (λ a. by-place j′ j
+      (λ b. rw (a, b) (simp (put-same-row, put-same) here))
+      (λ d. rw (far (λ x y. d y), a) (simp (put-same-row, put-other))))
+      (λ d. rw (far (λ x y. d x)) (simp put-other-row))
+    where
+      room : at-entry r q j + 2 < length ws
+      room = let c = cell-below r k q j hq hj in omega arith
+
+      far : (q′ ≡ q → j′ ≡ j → ⊥) → entry-of r (set-entry r q j e ws) q′ j′ ≡ entry-of r ws q′ j′
+      far d =
+          let c = cell-apart r q j q′ j′ hj hj′ d in
+          same-entry
+          (three-far ws (at-entry r q j) (e .p) (e .n) (e .c) (at-entry r q′ j′) (omega arith) (omega arith) (omega arith))
+          (three-far ws (at-entry r q j) (e .p) (e .n) (e .c) (at-entry r q′ j′ + 1) (omega arith) (omega arith) (omega arith))
+          (three-far ws (at-entry r q j) (e .p) (e .n) (e .c) (at-entry r q′ j′ + 2) (omega arith) (omega arith) (omega arith))
+
+      here : entry-of r (set-entry r q j e ws) q j ≡ e
+      here = same-entry (three-0 ws (at-entry r q j) (e .p) (e .n) (e .c) room) (three-1 ws (at-entry r q j) (e .p) (e .n) (e .c) room) (three-2 ws (at-entry r q j) (e .p) (e .n) (e .c) room)
+
+  -- the words before the entries
+  pub C-entry : (q j : ℕ) (e : Entry) (ws : List ℕ) (i : ℕ) → i < head + 2 * r → getD (set-entry r q j e ws) i 0 ≡ getD ws i 0
+  C-entry q j e ws i l = three-far ws (at-entry r q j) (e .p) (e .n) (e .c) i (λ d. omega arith) (λ d. omega arith) (λ d. omega arith)
+
+  pub entry-word : (i v : ℕ) (ws : List ℕ) → i < head + 2 * r → (q j : ℕ) → entry-of r (set ws i v) q j ≡ entry-of r ws q j
+  entry-word i v ws l q j =
+      same-entry (getD-set-other ws i (at-entry r q j) v 0 (λ d. omega arith)) (getD-set-other ws i (at-entry r q j + 1) v 0 (λ d. omega arith))
+      (getD-set-other ws i (at-entry r q j + 2) v 0 (λ d. omega arith))
+
+  -- a table of words: `from` is its first place
+  pub word-word : (from j v : ℕ) (ws : List ℕ) → from + j < length ws → (i : ℕ) → getD (set ws (from + j) v) (from + i) 0 ≡ put j v (λ i. getD ws (from + i) 0) i
+  word-word from j v ws l i =
+      by-place i j
+      (λ e. rw e (rw put-same (getD-set-same ws (from + j) v 0 l)))
+      (λ d. rw put-other (getD-set-other ws (from + j) (from + i) v 0 (λ e. d (omega arith))))
+
+  abbrev pub layout : Store r k
+  layout = record {
+    Words = List ℕ;
+    Fits = λ ws. length ws ≡ replica-length r k;
+    entry = entry-of r;
+    C = C-of;
+    N = N-of r;
+    set-entry = set-entry r;
+    set-C = set-C;
+    set-N = set-N r;
+    fits-entry = λ q j e ws h. three-length ws (at-entry r q j) (e .p) (e .n) (e .c) ∙ h;
+    fits-C = λ j v ws h. length-set ws (at-C j) v ∙ h;
+    fits-N = λ j v ws h. length-set ws (at-N r j) v ∙ h;
+    entry-entry = entry-entry;
+    C-entry = λ q j e ws h hq hj j′ l. C-entry q j e ws (at-C j′) (omega arith);
+    N-entry = λ q j e ws h hq hj j′ l. C-entry q j e ws (at-N r j′) (omega arith);
+    entry-C = λ j v ws h hj q′ j′ hq′ hj′. entry-word (at-C j) v ws (omega arith) q′ j′;
+    C-C = λ j v ws h hj j′ l. word-word head j v ws (omega arith) j′;
+    N-C = λ j v ws h hj j′ l. getD-set-other ws (at-C j) (at-N r j′) v 0 (λ d. omega arith);
+    entry-N = λ j v ws h hj q′ j′ hq′ hj′. entry-word (at-N r j) v ws (omega arith) q′ j′;
+    C-N = λ j v ws h hj j′ l. getD-set-other ws (at-N r j) (at-C j′) v 0 (λ d. omega arith);
+    N-N = λ j v ws h hj j′ l. word-word (head + r) j v ws (omega arith) j′;
+  }
+
+-- ---- a fresh replica
+
+zeros : (n i : ℕ) → getD (replicate {A = ℕ} n 0) i 0 ≡ 0
+zeros zero i = refl
+zeros (suc n) zero = refl
+zeros (suc n) (suc i) = zeros n i
+
+-- every word behind the first three is 0
+fresh-word : (r k i x : ℕ) → 3 ≤ x → getD (fresh-words r k i) x 0 ≡ 0
+unfolding fresh-words
+fresh-word r k i x l =
+    let e : x ≡ 3 + (x - 3) = omega arith in
+    ap (λ (y : ℕ). getD (fresh-words r k i) y 0) e
+    ∙ getD-append-add (r ∷ k ∷ i ∷ []) (replicate (2 * r + 3 * (r * k)) 0) (x - 3) 0
+    ∙ zeros (2 * r + 3 * (r * k)) (x - 3)
+
+pub fresh-shows : (r k i : ℕ) → Shows r k (layout r k) (fresh-words r k i) fresh-replica
+unfolding fresh-words
+fresh-shows r k i = record {
+  fits = fresh-length;
+  entries = λ q j hq hj.
+      same-entry (fresh-word r k i (at-entry r q j) (omega arith)) (fresh-word r k i (at-entry r q j + 1) (omega arith))
+      (fresh-word r k i (at-entry r q j + 2) (omega arith));
+  Cs = λ j hj. fresh-word r k i (at-C j) (omega arith);
+  Ns = λ j hj. fresh-word r k i (at-N r j) (omega arith);
+}
+  where
+    fresh-length : length (fresh-words r k i) ≡ replica-length r k
+    fresh-length = rw (length-replicate {A = ℕ} (2 * r + 3 * (r * k)) 0) (omega arith)

@@ -1,0 +1,61 @@
+-- The called length, the room for it, and the answer to exactly those bytes, as the definition goes.
+use borrow.Author.Needs.{needs}
+use mathlib.Core.Path.{refl, sym}
+use native.Mathlib.Omega.{arith}
+use lib.ListN.{length}
+use lib.Seq.{length-take-le}
+use denote.Ref.{now}
+use Prim.Native.Nat.{_<_}
+use Rattle.wire.specs.Message.{called-length}
+use Rattle.wire.specs.MessageLaws.{called-length-least, front-length-short, front-length-some, front-length-none}
+use Rattle.wire.proofs.decode.front_length.Statement.{statement}
+use Rattle.wire.proofs.decode.front_length.Tie as tie
+
+returns : tie.Need-returns
+returns c =
+    let s = now (c .before .before .args .bytes) in
+    let short : length s < called-length s = omega (arith, called-length-least s) in
+    (front-length-short s (called-length s) refl short, search needs)
+
+called-length-of-requires : tie.Need-called-length-of-requires
+called-length-of-requires c κs = search needs
+
+returns-2 : tie.Need-returns-2
+returns-2 c =
+    let called = c .before .called-length-of in
+    let s = now (c .before .before .before .before .args .bytes) in
+    (front-length-short s (called .result) (called .ensures) (c .if2 .taken), search needs)
+
+slice-aggregate-read-message : tie.Need-slice-aggregate-read-message
+slice-aggregate-read-message c = sym (length-take-le _ _ (c .before .if2 .left))
+
+read-message-requires : tie.Need-read-message-requires
+read-message-requires c κs = search needs
+
+returns-3 : tie.Need-returns-3
+returns-3 c =
+    let read = c .before in
+    let else2 = read .before .before in
+    let called = else2 .before .called-length-of in
+    let s = now (else2 .before .before .before .before .args .bytes) in
+    (front-length-some s (called .result) (called .ensures) (read .read-message .result) (read .read-message .ensures) (else2 .if2 .left) (c .if3 .taken), search needs)
+
+returns-4 : tie.Need-returns-4
+returns-4 c =
+    let read = c .before in
+    let else2 = read .before .before in
+    let called = else2 .before .called-length-of in
+    let s = now (else2 .before .before .before .before .args .bytes) in
+    (front-length-none s (called .result) (called .ensures) (read .read-message .result) (read .read-message .ensures) (else2 .if2 .left) (c .if3 .left), search needs)
+
+pub front-length-spec : {M : Type 1} → statement M
+front-length-spec =
+    tie.close
+    (tie.spec
+    returns
+    called-length-of-requires
+    returns-2
+    slice-aggregate-read-message
+    read-message-requires
+    returns-3
+    returns-4)

@@ -1,0 +1,69 @@
+-- The shortest length, the version and the kind in turn; what is left is the answer of the kind's own reader.
+use borrow.Author.Needs.{needs}
+use mathlib.Core.Path.{_∙_}
+use denote.Ref.{now}
+use Rattle.wire.specs.MessageLaws.{read-short, read-other-version, read-other-kind}
+use Rattle.wire.proofs.decode.read_message.Statement.{statement}
+use Rattle.wire.proofs.decode.read_message.Tie as tie
+
+refuse-requires : tie.Need-refuse-requires
+refuse-requires c κs = search needs
+
+returns : tie.Need-returns
+returns c =
+    let entry = c .before .before .before in
+    c .refuse .ensures ∙ read-short (now (entry .args .bytes)) (c .before .if1 .taken)
+
+read-u32-requires : tie.Need-read-u32-requires
+read-u32-requires c κs = search needs
+
+refuse-requires-2 : tie.Need-refuse-requires-2
+refuse-requires-2 c κs = search needs
+
+returns-2 : tie.Need-returns-2
+returns-2 c =
+    let version = c .before .before in
+    let entry = version .before .before .before in
+    c .refuse2 .ensures ∙ read-other-version (now (entry .args .bytes)) (λ e. c .before .if2 .taken (version .read-u32 .ensures ∙ e))
+
+read-u32-requires-2 : tie.Need-read-u32-requires-2
+read-u32-requires-2 c κs = search needs
+
+read-increment-requires : tie.Need-read-increment-requires
+read-increment-requires c κs = search needs
+
+returns-3 : tie.Need-returns-3
+returns-3 c = search needs
+
+read-clear-requires : tie.Need-read-clear-requires
+read-clear-requires c κs = search needs
+
+returns-4 : tie.Need-returns-4
+returns-4 c = search needs
+
+refuse-requires-3 : tie.Need-refuse-requires-3
+refuse-requires-3 c κs = search needs
+
+returns-5 : tie.Need-returns-5
+returns-5 c =
+    let kind = c .before .before .before in
+    let entry = kind .before .before .before .before .before in
+    let read = kind .read-u322 .ensures in
+    c .refuse3 .ensures ∙ read-other-kind (now (entry .args .bytes)) (λ e. c .before .before .if3 .left (read ∙ e)) (λ e. c .before .if4 .left (read ∙ e))
+
+pub read-message-spec : {M : Type 1} → statement M
+read-message-spec =
+    tie.close
+    (tie.spec
+    refuse-requires
+    returns
+    read-u32-requires
+    refuse-requires-2
+    returns-2
+    read-u32-requires-2
+    read-increment-requires
+    returns-3
+    read-clear-requires
+    returns-4
+    refuse-requires-3
+    returns-5)

@@ -1,0 +1,106 @@
+-- LAWS. The entries of a clear: one turn of each loop over them, their bytes, and the way back from the bytes. Assumes nothing.
+use mathlib.Core.Path.{_≡_, refl, sym, ap, _∙_}
+use mathlib.Core.List.{List, [], _∷_, _++_, append-assoc}
+use mathlib.Core.Bool.{Bool, true, _&&_, and-assoc}
+use Prim.Native.Nat.{ℕ, zero, suc, _+_, _-_, _*_, _≤_, _<_}
+use native.Mathlib.Nat.{add-zero, mul-zero}
+use native.Mathlib.Numerals.{add-one}
+use native.Mathlib.Omega.{arith}
+use lib.Dec.{ltb}
+use lib.ListN.{length, getD, take, drop, set, replicate, length-append, drop-of-length-le}
+use lib.Seq.{sets, set-at, drop-cons, take-nil, drop-nil}
+use borrow.Author.Tests.{lt-ltb, le-ltb}
+use Rattle.protocol.specs.declared.ClearEntry.{ClearEntry}
+use Rattle.protocol.specs.Cases.{by-le}
+use Rattle.wire.specs.Message.{no-entry, entry-bytes, entries-bytes, entry-at, entries-at, entry-in-range, entries-in-range, unused}
+use Rattle.wire.specs.Ranges.{entries-fit, entry-fits}
+use Rattle.wire.specs.Lists.{sets-append}
+use Rattle.wire.specs.NumberLaws.{length-bytes-of}
+
+-- ---- reading
+
+-- one entry more at the end
+pub entries-at-more : (count : ℕ) (s : List ℕ) (at : ℕ) → entries-at (suc count) s at ≡ entries-at count s at ++ (entry-at s (at + 20 * count) ∷ [])
+unfolding entries-at
+entries-at-more zero s at = rw (mul-zero, add-zero)
+entries-at-more (suc count) s at =
+    let place : at + 20 * suc count ≡ at + 20 + 20 * count = omega arith in
+    rw place (ap (λ (es : List ClearEntry). entry-at s at ∷ es) (entries-at-more count s (at + 20)))
+
+pub length-entries-at : (count : ℕ) (s : List ℕ) (at : ℕ) → length (entries-at count s at) ≡ count
+unfolding entries-at
+length-entries-at zero s at = refl
+length-entries-at (suc count) s at = ap suc (length-entries-at count s (at + 20))
+
+-- a turn stores the next entry into the sixteen places
+pub entries-stored : (i : ℕ) (s : List ℕ) (at : ℕ) → i < 16
+    → set (entries-at i s at ++ replicate (16 - i) no-entry) i (entry-at s (at + 20 * i)) ≡ entries-at (i + 1) s at ++ replicate (16 - (i + 1)) no-entry
+entries-stored i s at more =
+    let left : 16 - i ≡ suc (16 - (i + 1)) = omega arith in
+    rw left (set-at (entries-at i s at) no-entry (replicate (16 - (i + 1)) no-entry) (entry-at s (at + 20 * i)) i (length-entries-at i s at)
+    ∙ rw (add-one i, entries-at-more i s at, append-assoc))
+
+-- and tests it: what was found of the entries passed, with the tests of those that are left, is what is found of all
+entries-next : (low i count : ℕ) (s : List ℕ) (at : ℕ) → i < count
+    → entries-in-range low (entries-at (count - i) s (at + 20 * i))
+    ≡ entry-in-range low (entry-at s (at + 20 * i)) && entries-in-range (entry-at s (at + 20 * i) .card + 1) (entries-at (count - (i + 1)) s (at + 20 * (i + 1)))
+unfolding entries-at entries-in-range
+entries-next low i count s at more =
+    let left : count - i ≡ suc (count - (i + 1)) = omega arith in
+    let place : at + 20 * (i + 1) ≡ at + 20 * i + 20 = omega arith in
+    rw (left, place)
+
+pub entries-tested : (found here all : Bool) (low next i count : ℕ) (s : List ℕ) (at : ℕ) (e : ClearEntry) → i < count → e ≡ entry-at s (at + 20 * i)
+    → here ≡ entry-in-range low e → next ≡ e .card + 1 → found && entries-in-range low (entries-at (count - i) s (at + 20 * i)) ≡ all
+    → found && here && entries-in-range next (entries-at (count - (i + 1)) s (at + 20 * (i + 1))) ≡ all
+entries-tested found here all low next i count s at e more read tested follows before =
+    and-assoc found here (entries-in-range next (entries-at (count - (i + 1)) s (at + 20 * (i + 1))))
+    ∙ rw (tested, follows, read, ← entries-next low i count s at more) before
+
+-- ---- testing the sixteen places
+
+-- a place, before those past it
+places-next : (low i len : ℕ) (es : List ClearEntry) → i < length es → let e = getD es i no-entry in
+    entries-fit low (len - i) (drop i es) ≡ entry-fits (ltb i len) low e && entries-fit (e .card + 1) (len - (i + 1)) (drop (i + 1) es)
+unfolding entries-in-range unused entry-fits
+places-next low i len es inside =
+    let e = getD es i no-entry in
+    let rest = drop (suc i) es in
+    rw (drop-cons es i no-entry inside, add-one i)
+    (by-le (suc i) len
+    (λ used.
+    let left : len - i ≡ suc (len - suc i) = omega arith in
+    rw (lt-ltb i len used, left) (and-assoc (entry-in-range low e) (entries-in-range (e .card + 1) (take (len - suc i) rest)) (unused (drop (len - suc i) rest))))
+    (λ past.
+    let none : len - i ≡ 0 = omega arith in
+    let none-next : len - suc i ≡ 0 = omega arith in
+    rw (le-ltb i len (omega arith), none, none-next)))
+
+pub places-tested : (found here all : Bool) (low next i len : ℕ) (es : List ClearEntry) (e : ClearEntry) → i < length es → e ≡ getD es i no-entry
+    → here ≡ entry-fits (ltb i len) low e → next ≡ e .card + 1 → found && entries-fit low (len - i) (drop i es) ≡ all
+    → found && here && entries-fit next (len - (i + 1)) (drop (i + 1) es) ≡ all
+places-tested found here all low next i len es e inside read tested follows before =
+    and-assoc found here (entries-fit next (len - (i + 1)) (drop (i + 1) es))
+    ∙ rw (tested, follows, read, ← places-next low i len es inside) before
+
+pub places-done : (low n i : ℕ) (es : List ClearEntry) → length es ≤ i → entries-fit low n (drop i es) ≡ true
+unfolding entries-in-range unused
+places-done low n i es all = rw (drop-of-length-le es all, take-nil {A = ClearEntry} n, drop-nil {A = ClearEntry} n)
+
+-- ---- writing
+
+pub length-entry-bytes : (e : ClearEntry) → length (entry-bytes e) ≡ 20
+unfolding entry-bytes
+length-entry-bytes e = simp (length-append, length-bytes-of)
+
+pub length-entries-bytes : (count : ℕ) (es : List ClearEntry) → length (entries-bytes count es) ≡ 20 * count
+unfolding entries-bytes
+length-entries-bytes zero es = refl
+length-entries-bytes (suc count) es = simp (length-append, length-entry-bytes) (omega (arith, length-entries-bytes count es))
+
+-- a turn stores the next entry's bytes after those before it
+pub entries-written : (out : List ℕ) (at : ℕ) (es : List ClearEntry) (i : ℕ)
+    → sets (sets out at (entries-bytes i es)) (at + 20 * i) (entry-bytes (getD es i no-entry)) ≡ sets out at (entries-bytes (i + 1) es)
+unfolding entries-bytes
+entries-written out at es i =
+    rw add-one (sym (sets-append out at (entries-bytes i es) (entry-bytes (getD es i no-entry)) ∙ rw (length-entries-bytes i es)))

@@ -1,0 +1,146 @@
+// A message to bytes. `write_message` tests before it writes, so a refusal leaves every byte.
+use crate::CLEAR;
+use crate::COUNTER_AT;
+use crate::ENTRIES_AT;
+use crate::ENTRY_C_AT;
+use crate::ENTRY_LENGTH;
+use crate::ENTRY_P_AT;
+use crate::INCREMENT;
+use crate::INCREMENT_LENGTH;
+use crate::KIND_AT;
+use crate::LEN_AT;
+use crate::Message;
+use crate::P_AT;
+use crate::SENDER_AT;
+use crate::SEQUENCE_AT;
+use crate::START_AT;
+use crate::VERSION;
+use crate::Written;
+use crate::number;
+use crate::range;
+use protocol::ClearEntry;
+ghost use mathlib.Core.Path.{_≡_};
+ghost use mathlib.Core.List.{_++_};
+ghost use mathlib.Core.Bool.{cond};
+ghost use Prim.Native.Nat.{_+_, _*_, _≤_};
+ghost use lib.Dec.{eqb};
+ghost use lib.ListN.{length};
+ghost use lib.Seq.{sets};
+ghost use Rattle.wire.specs.Number.{unsigned-int, unsigned-hyper};
+ghost use Rattle.wire.specs.Message.{WriteOutcome, over, message-bytes, increment-message, entry-bytes, in-range, write-message};
+ghost use Rattle.wire.specs.Ranges.{entry-fits};
+
+fn put_header(version: u32, kind: u32, sender: u32, sequence: u64, counter: u32, out: &mut [u8])
+    requires { ⌜ 24 ≤ length (now out) ⌝ }
+    ensures { λ _. ⌜ now (out .exit) ≡ sets (now (out .entry)) 0 (unsigned-int version ++ unsigned-int kind ++ unsigned-int sender ++ unsigned-hyper sequence ++ unsigned-int counter) ⌝ }
+{
+    number::write_u32(out, 0, version);
+    number::write_u32(out, KIND_AT, kind);
+    number::write_u32(out, SENDER_AT, sender);
+    number::write_u64(out, SEQUENCE_AT, sequence);
+    number::write_u32(out, COUNTER_AT, counter);
+}
+
+// Inner door: writes an increment where there is room for it, whatever its numbers.
+// Ruled out: a number at another's place (must-fail/start_over_p), and bytes past the 36 that change.
+pub fn put_increment(sender: u32, sequence: u64, counter: u32, p: u64, start: u32, out: &mut [u8])
+    requires { ⌜ 36 ≤ length (now out) ⌝ }
+    ensures { λ _. ⌜ now (out .exit) ≡ over (message-bytes (increment-message sender sequence counter p start)) (now (out .entry)) ⌝ }
+{
+    put_header(VERSION, INCREMENT, sender, sequence, counter, out);
+    number::write_u64(out, P_AT, p);
+    number::write_u32(out, START_AT, start);
+}
+
+fn put_entry(entry: ClearEntry, at: usize, out: &mut [u8])
+    requires { ⌜ at + 20 ≤ length (now out) ⌝ }
+    ensures { λ _. ⌜ now (out .exit) ≡ sets (now (out .entry)) at (entry-bytes entry) ⌝ }
+{
+    number::write_u32(out, at, entry.card);
+    number::write_u64(out, at + ENTRY_P_AT, entry.p);
+    number::write_u64(out, at + ENTRY_C_AT, entry.c);
+}
+
+// Inner door: writes a clear where there is room for it, whatever its numbers.
+// Ruled out: an entry written past the last (must-fail/entry_past_the_last), and entries left out.
+pub fn put_clear(m: Message, out: &mut [u8])
+    requires { ⌜ (m .kind ≡ 2) × (m .len ≤ 16) × (28 + 20 * m .len ≤ length (now out)) ⌝ }
+    ensures { λ _. ⌜ now (out .exit) ≡ over (message-bytes m) (now (out .entry)) ⌝ }
+{
+    let len = m.len;
+    put_header(m.version, m.kind, m.sender, m.sequence, m.counter, out);
+    number::write_u32(out, LEN_AT, len as u32);
+    let mut i: usize = 0;
+    while i < len {
+        let entry = m.entries[i];
+        put_entry(entry, ENTRIES_AT + ENTRY_LENGTH * i, out);
+        i += 1;
+    }
+}
+
+// One of the sixteen places: in range where the length counts it, zeros where it does not.
+fn place_in_range(used: bool, low: u64, entry: ClearEntry) -> bool
+    ensures { λ r. ⌜ r ≡ entry-fits used low entry ⌝ }
+{
+    if used {
+        return range::entry_in_range(low, entry);
+    }
+    range::entry_unused(entry)
+}
+
+// Whether the message is in range and in its one form: what its kind does not use is 0.
+fn message_in_range(m: Message) -> bool
+    ensures { λ r. ⌜ r ≡ in-range m ⌝ }
+{
+    let len = m.len;
+    let mut fit = range::header_in_range(m.version, m.sender, m.sequence, m.counter)
+        & range::body_in_range(m.kind, m.p, m.start, len);
+    let mut low: u64 = 0;
+    let mut i: usize = 0;
+    while i < 16 {
+        let entry = m.entries[i];
+        fit = fit & place_in_range(i < len, low, entry);
+        low = range::next_card(entry);
+        i += 1;
+    }
+    fit
+}
+
+// Inner door: the length of a message of this kind with `len` entries.
+// Ruled out: a clear's length without its entries, and one that is not the increment's (must-fail/increment_of_37_bytes).
+pub fn length_of(kind: u32, len: usize) -> usize
+    requires { ⌜ len ≤ 16 ⌝ }
+    ensures { λ r. ⌜ r ≡ cond (eqb kind 2) (28 + 20 * len) 36 ⌝ }
+{
+    if kind == CLEAR {
+        return ENTRIES_AT + ENTRY_LENGTH * len;
+    }
+    INCREMENT_LENGTH
+}
+
+fn decline(number: u64) -> Written
+    ensures { λ r. ⌜ r ≡ record { number = number; length = 0 } ⌝ }
+{
+    Written { number, length: 0 }
+}
+
+// Writes the message from the first byte on, or declines with number 6, then 5, and leaves every byte.
+// Ruled out: a writer that takes a message in another form than its one (must-fail/unused_not_zero), and one that touches a byte
+// past the message (must-fail/entry_past_the_last).
+pub fn write_message(m: Message, out: &mut [u8]) -> Written
+    ensures { λ r. ⌜ _≡_ {A = WriteOutcome} (record { answer = r; out = now (out .exit) }) (write-message m (now (out .entry))) ⌝ }
+{
+    if !message_in_range(m) {
+        return decline(protocol::UNREADABLE);
+    }
+    let length = length_of(m.kind, m.len);
+    if out.len() < length {
+        return decline(protocol::OUTPUT_TOO_SHORT);
+    }
+    if m.kind == CLEAR {
+        put_clear(m, out);
+        return Written { number: 0, length };
+    }
+    put_increment(m.sender, m.sequence, m.counter, m.p, m.start, out);
+    Written { number: 0, length }
+}

@@ -1,0 +1,73 @@
+// Unsigned numbers of RFC 4506, read from and written into the caller's bytes at an offset. One loop serves both widths.
+// All are inner doors: the crates above have tested the length before they call.
+ghost use mathlib.Core.Path.{_≡_};
+ghost use Prim.Native.Nat.{_+_, _≤_};
+ghost use lib.ListN.{length};
+ghost use lib.Seq.{sets};
+ghost use Rattle.wire.specs.Number.{number-at, bytes-of};
+
+fn widened(byte: u8) -> u64
+    ensures { λ r. ⌜ r ≡ byte ⌝ }
+{
+    byte as u64
+}
+
+// The number in the `width` bytes from `at` on.
+fn read_number(s: &[u8], at: usize, width: usize) -> u64
+    requires { ⌜ (width ≤ 8) × (at + width ≤ length (now s)) ⌝ }
+    ensures { λ r. ⌜ r ≡ number-at width (now (s .entry)) at ⌝ }
+{
+    let mut number: u64 = 0;
+    let mut i: usize = 0;
+    while i < width {
+        number = number * 256 + widened(s[at + i]);
+        i += 1;
+    }
+    number
+}
+
+// Ruled out: the bytes in another order (must-fail/byte_order), and a byte of the next number taken in.
+pub fn read_u32(s: &[u8], at: usize) -> u32
+    requires { ⌜ at + 4 ≤ length (now s) ⌝ }
+    ensures { λ r. ⌜ r ≡ number-at 4 (now (s .entry)) at ⌝ }
+{
+    read_number(s, at, 4) as u32
+}
+
+// Ruled out: as for `read_u32`.
+pub fn read_u64(s: &[u8], at: usize) -> u64
+    requires { ⌜ at + 8 ≤ length (now s) ⌝ }
+    ensures { λ r. ⌜ r ≡ number-at 8 (now (s .entry)) at ⌝ }
+{
+    read_number(s, at, 8)
+}
+
+// Writes `x` into the `width` bytes from `at` on, the last byte first.
+fn write_number(out: &mut [u8], at: usize, width: usize, x: u64)
+    requires { ⌜ at + width ≤ length (now out) ⌝ }
+    ensures { λ _. ⌜ now (out .exit) ≡ sets (now (out .entry)) at (bytes-of width x) ⌝ }
+{
+    let mut rest = x;
+    let mut left = width;
+    while 0 < left {
+        left -= 1;
+        out[at + left] = (rest % 256) as u8;
+        rest = rest / 256;
+    }
+}
+
+// Ruled out: the bytes in another order (must-fail/byte_order), and a byte past the four that changes.
+pub fn write_u32(out: &mut [u8], at: usize, x: u32)
+    requires { ⌜ at + 4 ≤ length (now out) ⌝ }
+    ensures { λ _. ⌜ now (out .exit) ≡ sets (now (out .entry)) at (bytes-of 4 x) ⌝ }
+{
+    write_number(out, at, 4, x as u64);
+}
+
+// Ruled out: as for `write_u32`.
+pub fn write_u64(out: &mut [u8], at: usize, x: u64)
+    requires { ⌜ at + 8 ≤ length (now out) ⌝ }
+    ensures { λ _. ⌜ now (out .exit) ≡ sets (now (out .entry)) at (bytes-of 8 x) ⌝ }
+{
+    write_number(out, at, 8, x);
+}

@@ -1,0 +1,66 @@
+// The ranges of a message's fields, shared by reading and writing. Each function takes numbers or one entry, never the whole struct.
+use crate::CLEAR;
+use crate::INCREMENT;
+use crate::VERSION;
+use protocol::ClearEntry;
+ghost use mathlib.Core.Path.{_≡_};
+ghost use Prim.Native.Nat.{_+_};
+ghost use mathlib.Core.Bool.{_&&_};
+ghost use lib.Dec.{eqb};
+ghost use Rattle.wire.specs.Message.{entry-in-range};
+ghost use Rattle.wire.specs.Ranges.{from-one-to, header-fits, body-fits};
+
+const CARD_LIMIT: u32 = protocol::CARD_LIMIT as u32;
+
+const COUNTER_LIMIT: u32 = protocol::COUNTER_LIMIT as u32;
+
+pub(crate) const MOST_ENTRIES: usize = protocol::CARD_LIMIT as usize;
+
+// One comparison, 0 wrapping past every bound: compared with MAX directly, a word just read from bytes would be read by halves.
+fn from_one(x: u64, most: u64) -> bool
+    ensures { λ r. ⌜ r ≡ from-one-to most x ⌝ }
+{
+    std::num::wrapping_sub_u64(x, 1) < most
+}
+
+pub(crate) fn header_in_range(version: u32, sender: u32, sequence: u64, counter: u32) -> bool
+    ensures { λ r. ⌜ r ≡ header-fits version sender sequence counter ⌝ }
+{
+    (version == VERSION)
+        & (sender < CARD_LIMIT)
+        & from_one(sequence, protocol::MAX)
+        & (counter < COUNTER_LIMIT)
+}
+
+// What the kind asks of the numbers past the header: those that it does not use are 0.
+pub(crate) fn body_in_range(kind: u32, p: u64, start: u32, len: usize) -> bool
+    ensures { λ r. ⌜ r ≡ body-fits kind p start len ⌝ }
+{
+    if kind == INCREMENT {
+        return from_one(p, protocol::MAX) & (start <= 1) & (len == 0);
+    }
+    (kind == CLEAR) & ((p == 0) & (start == 0) & (len <= MOST_ENTRIES))
+}
+
+// Cards rise strictly: the entry's card is `low` or above.
+pub(crate) fn entry_in_range(low: u64, entry: ClearEntry) -> bool
+    ensures { λ r. ⌜ r ≡ entry-in-range low entry ⌝ }
+{
+    (low <= entry.card as u64)
+        & (entry.card < CARD_LIMIT)
+        & from_one(entry.p, entry.c)
+        & from_one(entry.c, protocol::MAX)
+}
+
+pub(crate) fn entry_unused(entry: ClearEntry) -> bool
+    ensures { λ r. ⌜ r ≡ (eqb (entry .card) 0 && eqb (entry .p) 0 && eqb (entry .c) 0) ⌝ }
+{
+    (entry.card == 0) & (entry.p == 0) & (entry.c == 0)
+}
+
+// The lowest card that may follow.
+pub(crate) fn next_card(entry: ClearEntry) -> u64
+    ensures { λ r. ⌜ r ≡ entry .card + 1 ⌝ }
+{
+    entry.card as u64 + 1
+}
