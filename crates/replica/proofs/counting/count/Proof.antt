@@ -1,0 +1,73 @@
+-- The refusal says which check failed, or that none did (`sending-refused`, `sending-passed`). Assumes nothing.
+use borrow.Author.Needs.{needs}
+use mathlib.Core.Path.{_≡_, sym, _∙_}
+use native.Mathlib.Omega.{arith}
+use denote.Ref.{now}
+use Rattle.replica_model.specs.Layout.{cards}
+use Rattle.replica_model.specs.Calls.{count-on}
+use Rattle.replica.specs.SendLaws.{Sends, send-refusal, refusal-none, sending-refused, sending-passed}
+use Rattle.replica.proofs.counting.count.Statement.{statement}
+use Rattle.replica.proofs.counting.count.Tie as tie
+
+none : (c : tie.Else1) → let start = c .before .before .before .before .before in send-refusal (now (start .args .words)) (start .args .counter) ≡ 0
+none c = sym (c .before .refusal .ensures) ∙ c .if1 .left
+
+sends : (c : tie.Else1) → let start = c .before .before .before .before .before in let b = now (start .args .words) in Sends b (cards b) (start .args .counter)
+sends c = refusal-none _ _ (none c)
+
+refusal-requires : tie.Need-refusal-requires
+refusal-requires c κs = search needs
+
+refused-requires : tie.Need-refused-requires
+refused-requires c κs = search needs
+
+same-length : tie.Need-same-length
+same-length c = search needs
+
+returns : tie.Need-returns
+unfolding count-on
+returns c =
+    let number = c .before .before in
+    rw (c .refused .ensures, number .refusal .ensures) (sending-refused _ _ _ _ (rw (number .refusal .ensures) at (c .before .if1 .taken)))
+
+cards-of-requires : tie.Need-cards-of-requires
+cards-of-requires c κs =
+    let h = sends (c .before) in
+    omega arith
+
+index-requires : tie.Need-index-requires
+index-requires c κs = search needs
+
+send-increment-requires : tie.Need-send-increment-requires
+send-increment-requires c κs =
+    let found = c .before .before .before in
+    rw (found .cards-of .ensures, c .before .index .ensures) (sends (found .before .before))
+
+same-length-2 : tie.Need-same-length-2
+same-length-2 c = search needs
+
+same-length-3 : tie.Need-same-length-3
+same-length-3 c = search needs
+
+returns-2 : tie.Need-returns-2
+unfolding count-on
+returns-2 c =
+    let done = c .before .before .before .before in
+    let indexed = done .before .before in
+    let else1 = indexed .before .before .before .before in
+    (rw (indexed .index .ensures) at (done .send-increment .ensures)) ∙ sending-passed _ _ _ _ (none else1)
+
+pub count-spec : {M : Type 1} → statement M
+count-spec =
+    tie.close
+    (tie.spec
+    refusal-requires
+    refused-requires
+    same-length
+    returns
+    cards-of-requires
+    index-requires
+    send-increment-requires
+    same-length-2
+    same-length-3
+    returns-2)

@@ -1,0 +1,102 @@
+-- The invariant speaks of what is left (`Clearing`): the entries from i on make of the present words what all of them make of the first words. Assumes nothing.
+use borrow.Author.Needs.{needs}
+use Prim.Native.Nat.{_-_, _≤_}
+use mathlib.Core.Path.{_≡_}
+use native.Mathlib.Omega.{arith}
+use denote.Ref.{now}
+use lib.ListN.{length, take}
+use lib.Seq.{getD-take, length-take-le}
+use Rattle.wire.specs.Message.{no-entry}
+use Rattle.replica_model.specs.Layout.{counters}
+use Rattle.replica.specs.Effects.{Clearing, clearing-begins, next-card, clearing-turn, clearing-ends, clear-taken}
+use Rattle.replica.proofs.effect.apply_clear.Statement.{statement}
+use Rattle.replica.proofs.effect.apply_clear.Tie as tie
+
+abbrev Inv-loop : tie.InvT-loop
+Inv-loop b₀ r q j len entries known i₀ b i = (i ≤ len) × Clearing r (counters b₀) q j (take len entries) b₀ i b
+
+abbrev μ-loop : tie.MeasureT-loop
+μ-loop b₀ r q j len entries known i₀ b i = len - i
+
+-- the clear has as many entries as its length says
+entries-long : (c : tie.Start Inv-loop μ-loop) → length (take (c .args .len) (c .args .t5)) ≡ c .args .len
+entries-long c =
+    let all : length (c .args .t5) ≡ 16 = c .good .1 .1 .1 .1 .0 .1 .0 .1 in
+    length-take-le (c .args .len) (c .args .t5) (omega arith)
+
+increments-at-requires : tie.Need-increments-at-requires Inv-loop μ-loop
+increments-at-requires c κs = search needs
+
+loop-holds : tie.Need-loop-holds Inv-loop μ-loop
+loop-holds c =
+    let start = c .before .before .before in
+    (omega arith, clearing-begins _ _ _ _ _ _ (start .pre .0) (start .pre .2))
+
+mul-entry : tie.Need-mul-entry Inv-loop μ-loop
+mul-entry c = search needs
+
+array-copy-out-entry : tie.Need-array-copy-out-entry Inv-loop μ-loop
+array-copy-out-entry c = search needs
+
+clear-entry-requires : tie.Need-clear-entry-requires Inv-loop μ-loop
+clear-entry-requires c κs =
+    let turn = c .before .before in
+    let at = turn .before in
+    let start = at .before .before .before .before in
+    let all = entries-long start in
+    let here = getD-take (start .args .len) (start .args .t5) (at .loop .i) no-entry (turn .loop-test .taken) in
+    (at .loop .inv .1 .receives .row, rw here at (next-card _ _ _ _ _ _ (at .loop .i) _ (at .loop .inv .1) (omega arith)))
+
+add-i : tie.Need-add-i Inv-loop μ-loop
+add-i c = search needs
+
+loop-less : tie.Need-loop-less Inv-loop μ-loop
+loop-less c = search needs
+
+loop-again : tie.Need-loop-again Inv-loop μ-loop
+loop-again c =
+    let cleared = c .before .before in
+    let at = cleared .before .before .before .before in
+    let start = at .before .before .before .before in
+    let all = entries-long start in
+    let here = getD-take (start .args .len) (start .args .t5) (at .loop .i) no-entry (omega arith) in
+    (omega arith, rw (cleared .clear-entry .ensures) (rw here at (clearing-turn _ _ _ _ _ _ (at .loop .i) _ (at .loop .inv .1) (omega arith))))
+
+receive-requires : tie.Need-receive-requires Inv-loop μ-loop
+receive-requires c κs =
+    let at = c .before .before in
+    let known = at .before in
+    let h = at .loop .inv .1 .receives in
+    (omega arith, omega (arith, known .increments-at .ok), h .N-room)
+
+same-length : tie.Need-same-length Inv-loop μ-loop
+same-length c = search needs
+
+returns : tie.Need-returns Inv-loop μ-loop
+returns c =
+    let counted = c .before .before in
+    let done = counted .before .before in
+    let at = done .before in
+    let known = at .before in
+    let start = known .before .before .before in
+    let all = entries-long start in
+    let words = clearing-ends _ _ _ _ _ _ (at .loop .i) _ (at .loop .inv .1) (omega arith) in
+    rw (counted .receive .ensures, known .increments-at .ensures) (clear-taken _ _ _ _ _ (now (start .args .b)) _ (start .pre .0 .card) words)
+
+pub apply-clear-spec : {M : Type 1} → statement M
+apply-clear-spec =
+    tie.close
+    (tie.spec
+    Inv-loop
+    μ-loop
+    increments-at-requires
+    loop-holds
+    mul-entry
+    array-copy-out-entry
+    clear-entry-requires
+    add-i
+    loop-less
+    loop-again
+    receive-requires
+    same-length
+    returns)

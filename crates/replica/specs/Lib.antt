@@ -1,0 +1,6 @@
+pub mod Rows
+pub mod Sums
+pub mod Holders
+pub mod Effects
+pub mod Taking
+pub mod SendLaws

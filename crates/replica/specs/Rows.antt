@@ -1,0 +1,79 @@
+-- LAWS. One row of a right replica: the facts that the code's inner functions ask for, linear with the product as an atom, and that updates keep them;
+-- and what a well-formed row says of each of its cards.
+use Prim.Native.Nat.{ℕ, zero, suc, _+_, _-_, _*_, _≤_, _<_}
+use mathlib.Core.Path.{_≡_, refl, sym, _∙_}
+use mathlib.Core.List.{List}
+use mathlib.Core.Bool.{Bool, true, _&&_}
+use native.Mathlib.Nat.{mul-le-mul, mul-le-mul-right, mul-comm}
+use native.Mathlib.Numerals.{add-one}
+use native.Mathlib.Omega.{arith}
+use lib.Dec.{eqb}
+use lib.ListN.{length, length-set}
+use lib.Seq.{getD-set-other}
+use borrow.Author.Tests.{leb-true, ltb-true, eqb-true}
+use Rattle.protocol.specs.Limits.{MAX}
+use Rattle.protocol.specs.Cases.{by-place, by-test, and-left, and-right}
+use Rattle.protocol.specs.declared.Entry.{Entry}
+use Rattle.replica_model.specs.Layout.{cards, counters, own-card, head, replica-length, at-C, at-N, at-entry, C-of, N-of, entry-of, set-C, set-N, set-entry}
+use Rattle.replica_model.specs.Store.{three-length, C-entry}
+use Rattle.protocol.specs.Rows.{WellFormed}
+use Rattle.replica_model.specs.RowLaws.{right-facts, row-facts}
+use Rattle.replica_model.specs.Calls.{sizes-in-range, right, all-below, entry-well-formed, card-well-formed, row-well-formed}
+
+-- ---- a right replica, and one of its rows
+
+pub right-long : (b : List ℕ) → right b ≡ true → head ≤ length b
+right-long b h = let f = right-facts b h in omega arith
+
+-- the row of counter q lies inside the words
+pub record Row (b : List ℕ) (r q : ℕ) : Type 0 where
+  pub first : r ≡ cards b
+  pub few : r ≤ 16
+  pub own : own-card b < r
+  pub product : q * r ≤ 1024
+  pub inside : head + 2 * r + 3 * (q * r) + 3 * r ≤ length b
+
+pub row : (b : List ℕ) (q : ℕ) → right b ≡ true → q < counters b → Row b (cards b) q
+row b q h l =
+    let f = right-facts b h in
+    let past = mul-le-mul-right (cards b) l in
+    let turned = mul-comm (cards b) (counters b) in
+    let all : counters b * cards b ≤ 1024 = mul-le-mul (f .few-counters) (f .few-cards) in
+    record { first = refl; few = f .few-cards; own = f .own; product = omega arith; inside = omega arith }
+
+-- what an update leaves when the length and the first three words stay
+row-kept : (b b′ : List ℕ) (r q : ℕ) → length b′ ≡ length b → cards b′ ≡ cards b → own-card b′ ≡ own-card b → Row b r q → Row b′ r q
+row-kept b b′ r q l e o h = record {
+  first = h .first ∙ sym e;
+  few = h .few;
+  own = omega arith;
+  product = h .product;
+  inside = omega arith;
+}
+
+pub row-set-C : (b : List ℕ) (r q j v : ℕ) → Row b r q → Row (set-C j v b) r q
+row-set-C b r q j v h =
+    row-kept b (set-C j v b) r q (length-set b (at-C j) v) (getD-set-other b (at-C j) 0 v 0 (λ e. omega arith)) (getD-set-other b (at-C j) 2 v 0 (λ e. omega arith)) h
+
+pub row-set-N : (b : List ℕ) (r q j v : ℕ) → Row b r q → Row (set-N r j v b) r q
+row-set-N b r q j v h =
+    row-kept b (set-N r j v b) r q (length-set b (at-N r j) v) (getD-set-other b (at-N r j) 0 v 0 (λ e. omega arith)) (getD-set-other b (at-N r j) 2 v 0 (λ e. omega arith)) h
+
+pub row-set-entry : (b : List ℕ) (r q j : ℕ) (e : Entry) → Row b r q → Row (set-entry r q j e b) r q
+row-set-entry b r q j e h =
+    row-kept b (set-entry r q j e b) r q (three-length b (at-entry r q j) (e .p) (e .n) (e .c)) (C-entry r q q j e b 0 (omega arith)) (C-entry r q q j e b 2 (omega arith)) h
+
+-- ---- a well-formed row
+
+pub all-below-turn : (n : ℕ) (f : ℕ → Bool) → (all-below n f && f n) ≡ all-below (n + 1) f
+unfolding all-below
+all-below-turn n f = rw (add-one n)
+
+-- what a well-formed row says of card j
+pub record Card (b : List ℕ) (r q j : ℕ) : Type 0 where
+  pub C-below : C-of b j ≤ N-of r b j
+  pub N-below : N-of r b j ≤ MAX
+  pub entry : WellFormed MAX (entry-of r b q j)
+
+pub card-facts : (b : List ℕ) (q : ℕ) → row-well-formed b q ≡ true → (j : ℕ) → j < cards b → Card b (cards b) q j
+card-facts b q h j l = let f = row-facts b q h in record { C-below = f .C≤N j l; N-below = f .N≤MAX j l; entry = f .entry j l }

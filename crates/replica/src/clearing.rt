@@ -1,0 +1,58 @@
+// The call that clears: it makes a clear of every present entry, writes it to the output and applies it to the own replica.
+use crate::effect;
+use crate::sending;
+use crate::words;
+use replica_model::Sent;
+use wire::Message;
+ghost use mathlib.Core.Path.{_≡_};
+ghost use Rattle.protocol.specs.Chassis.{clear-message};
+ghost use Rattle.replica_model.specs.Layout.{cards};
+ghost use Rattle.replica_model.specs.Calls.{SendOutcome, state, sent, clear-on};
+ghost use Rattle.replica.specs.SendLaws.{Sends};
+
+// The call where every check but the last has passed. Nothing is written before that one.
+fn send_clear(words: &mut [u64], r: usize, q: usize, out: &mut [u8]) -> Sent
+    requires { ⌜ Sends (now words) r q ⌝ }
+    ensures { λ a. ⌜ _≡_ {A = SendOutcome} (record { answer = a; words = now (words .exit); out = now (out .exit) }) (sent (now (words .entry)) (now (out .entry)) (clear-message (cards (now (words .entry))) q (state (now (words .entry))))) ⌝ }
+{
+    let held = effect::present_entries(words, r, q);
+    let len = held.len;
+    let length = wire::encode::length_of(wire::CLEAR, len);
+    if out.len() < length {
+        return sending::refused(protocol::OUTPUT_TOO_SHORT);
+    }
+    let own = words::own_card(words);
+    let sequence = words::messages_at(words, r, own) + 1;
+    let entries = held.entries;
+    let m = Message {
+        version: wire::VERSION,
+        kind: wire::CLEAR,
+        sender: own as u32,
+        sequence,
+        counter: q as u32,
+        p: 0,
+        start: 0,
+        len,
+        entries,
+    };
+    wire::encode::put_clear(m, out);
+    effect::apply_clear(words, r, q, own, entries, len);
+    Sent {
+        number: 0,
+        sequence,
+        length: length as u64,
+    }
+}
+
+// Ruled out: a clear that counts in C (must-fail/clears_count_in_C), and one that drops an entry as soon as p = n
+// (must-fail/drop_as_soon_as_p_is_n).
+pub fn clear(words: &mut [u64], counter: u64, out: &mut [u8]) -> Sent
+    ensures { λ a. ⌜ _≡_ {A = SendOutcome} (record { answer = a; words = now (words .exit); out = now (out .exit) }) (clear-on (now (words .entry)) counter (now (out .entry))) ⌝ }
+{
+    let number = sending::refusal(words, counter);
+    if number != 0 {
+        return sending::refused(number);
+    }
+    let r = words::cards_of(words);
+    send_clear(words, r, words::index(counter), out)
+}

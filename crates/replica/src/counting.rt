@@ -1,0 +1,61 @@
+// The call that counts: it makes an increment, writes it to the output and applies it to the own replica.
+use crate::effect;
+use crate::sending;
+use crate::words;
+use protocol::Entry;
+use replica_model::Sent;
+ghost use mathlib.Core.Path.{_≡_};
+ghost use Prim.Native.Nat.{_≤_};
+ghost use Rattle.protocol.specs.Limits.{MAX};
+ghost use Rattle.protocol.specs.Entry.{count-p};
+ghost use Rattle.protocol.specs.Chassis.{count-message};
+ghost use Rattle.replica_model.specs.Layout.{own-card};
+ghost use Rattle.replica_model.specs.Calls.{SendOutcome, state, sent, count-on};
+ghost use Rattle.replica.specs.SendLaws.{Sends};
+
+// Lines 13 to 16: p goes on from the own entry, and from all that the card has counted where there is none.
+fn next_p(e: Entry, known: u64) -> u64
+    requires { ⌜ (e .p ≤ MAX) × (known ≤ MAX) ⌝ }
+    ensures { λ a. ⌜ a ≡ count-p 1 known e ⌝ }
+{
+    if 0 < e.p {
+        return e.p + 1;
+    }
+    known + 1
+}
+
+// The call where every check but the last has passed. Nothing is written before that one.
+fn send_increment(words: &mut [u64], r: usize, q: usize, out: &mut [u8]) -> Sent
+    requires { ⌜ Sends (now words) r q ⌝ }
+    ensures { λ a. ⌜ _≡_ {A = SendOutcome} (record { answer = a; words = now (words .exit); out = now (out .exit) }) (sent (now (words .entry)) (now (out .entry)) (count-message (own-card (now (words .entry))) q 1 (state (now (words .entry))))) ⌝ }
+{
+    if out.len() < wire::INCREMENT_LENGTH {
+        return sending::refused(protocol::OUTPUT_TOO_SHORT);
+    }
+    let own = words::own_card(words);
+    let e = words::entry_at(words, r, q, own);
+    let known = words::increments_at(words, own);
+    let sequence = words::messages_at(words, r, own) + 1;
+    let p = next_p(e, known);
+    let start = !(0 < e.p);
+    wire::encode::put_increment(own as u32, sequence, q as u32, p, start as u32, out);
+    effect::apply_increment(words, r, q, own, p, start);
+    Sent {
+        number: 0,
+        sequence,
+        length: wire::INCREMENT_LENGTH as u64,
+    }
+}
+
+// Ruled out: a count that restarts p at 1 after a clear (must-fail/restart_p_at_one), and one that makes an absent entry with n = 0
+// (must-fail/start_at_zero_when_absent).
+pub fn count(words: &mut [u64], counter: u64, out: &mut [u8]) -> Sent
+    ensures { λ a. ⌜ _≡_ {A = SendOutcome} (record { answer = a; words = now (words .exit); out = now (out .exit) }) (count-on (now (words .entry)) counter (now (out .entry))) ⌝ }
+{
+    let number = sending::refusal(words, counter);
+    if number != 0 {
+        return sending::refused(number);
+    }
+    let r = words::cards_of(words);
+    send_increment(words, r, words::index(counter), out)
+}

@@ -1,0 +1,192 @@
+// Algorithm 1's effectors: what a message that is received does to one entry, and to the words of a replica.
+// Lines are those of Algorithm 1 in the 2022 paper.
+use crate::words;
+use protocol::ClearEntry;
+use protocol::Entry;
+ghost use mathlib.Core.Path.{_≡_};
+ghost use mathlib.Core.Bool.{cond, not, _||_};
+ghost use Prim.Native.Nat.{max, _-_, _+_, _≤_, _<_};
+ghost use lib.ListN.{length, take};
+ghost use Rattle.protocol.specs.Entry.{present, larger, removeIf, finished, settled, incremented, cleared};
+ghost use Rattle.protocol.specs.Chassis.{increment, clearing, present-entries};
+ghost use Rattle.protocol.specs.Stores.{CardsBelow, taken-words};
+ghost use Rattle.replica_model.specs.Layout.{counters, at-N, C-of, N-of, entry-of};
+ghost use Rattle.replica_model.specs.Store.{layout};
+ghost use Rattle.replica.specs.Rows.{Row};
+ghost use Rattle.replica.specs.Effects.{Receives, received, entry-cleared, sent-entry, held};
+
+const ABSENT: Entry = Entry { p: 0, n: 0, c: 0 };
+
+const NO_ENTRY: ClearEntry = ClearEntry {
+    card: 0,
+    p: 0,
+    c: 0,
+};
+
+// The entries of a clear: the first `len`, and zeros past them.
+pub struct Held {
+    pub len: usize,
+    pub entries: [ClearEntry; 16],
+}
+
+fn larger(x: u64, y: u64) -> u64
+    ensures { λ a. ⌜ a ≡ max x y ⌝ }
+{
+    if x < y { y } else { x }
+}
+
+// "max is taken field by field"
+fn larger_entry(e: Entry, f: Entry) -> Entry
+    ensures { λ a. ⌜ a ≡ larger e f ⌝ }
+{
+    Entry {
+        p: larger(e.p, f.p),
+        n: larger(e.n, f.n),
+        c: larger(e.c, f.c),
+    }
+}
+
+// Lines 19 to 23: an increment that starts, or that finds no entry, cancels all that its card sent before it.
+fn brought_n(p: u64, start: bool, e: Entry) -> u64
+    requires { ⌜ 1 ≤ p ⌝ }
+    ensures { λ a. ⌜ a ≡ cond (start || not (present e)) (p - 1) 0 ⌝ }
+{
+    if start | !(0 < e.p) {
+        return p - 1;
+    }
+    0
+}
+
+// Lines 24 and 25. p = n is not enough: an entry that a clear made ahead of its increments stays until they have come, or they would count.
+fn without_finished(c: u64, e: Entry) -> Entry
+    ensures { λ a. ⌜ a ≡ removeIf (finished c e) e ⌝ }
+{
+    if (e.p == e.n) & (e.c == c) {
+        return ABSENT;
+    }
+    e
+}
+
+// Lines 37 and 38, likewise.
+fn without_settled(known: u64, e: Entry) -> Entry
+    ensures { λ a. ⌜ a ≡ removeIf (settled known e) e ⌝ }
+{
+    if (e.p == e.n) & (e.c <= known) {
+        return ABSENT;
+    }
+    e
+}
+
+// An increment; `known` is C of its sender before it.
+pub(crate) fn incremented_entry(p: u64, start: bool, known: u64, e: Entry) -> Entry
+    requires { ⌜ (1 ≤ p) × (known < 18446744073709551615) ⌝ }
+    ensures { λ a. ⌜ a ≡ incremented 1 p start known e ⌝ }
+{
+    let n = brought_n(p, start, e);
+    let c = known + 1;
+    without_finished(c, larger_entry(e, Entry { p, n, c }))
+}
+
+// An entry (p, c) of a clear; `known` is C of the entry's card.
+pub(crate) fn cleared_entry(p: u64, c: u64, known: u64, e: Entry) -> Entry
+    ensures { λ a. ⌜ a ≡ cleared p c known e ⌝ }
+{
+    if 0 < e.p {
+        return without_settled(known, larger_entry(e, Entry { p, n: p, c }));
+    }
+    if known < c {
+        return Entry { p, n: p, c };
+    }
+    e
+}
+
+// A message of card j has come: N[j] rises by one, and C[j], which was `known`, by the increments that the message brings (line 26).
+fn receive(b: &mut [u64], r: usize, j: usize, known: u64, increments: u64)
+    requires { ⌜ (at-N r j < length (now b)) × (known + increments < 18446744073709551616) × (N-of r (now b) j < 18446744073709551615) ⌝ }
+    ensures { λ _. ⌜ now (b .exit) ≡ received r j known increments (now (b .entry)) ⌝ }
+{
+    let messages = words::messages_at(b, r, j);
+    words::set_increments(b, j, known + increments);
+    words::set_messages(b, r, j, messages + 1);
+}
+
+// Lines 17 to 26, for an increment of card j on counter q.
+pub(crate) fn apply_increment(b: &mut [u64], r: usize, q: usize, j: usize, p: u64, start: bool)
+    requires { ⌜ Receives (now b) r q j × (1 ≤ p) × (C-of (now b) j < 18446744073709551615) ⌝ }
+    ensures { λ _. ⌜ now (b .exit) ≡ taken-words r (counters (now (b .entry))) (layout r (counters (now (b .entry)))) j (increment q 1 p start) (now (b .entry)) ⌝ }
+{
+    let known = words::increments_at(b, j);
+    let e = words::entry_at(b, r, q, j);
+    words::put_entry(b, r, q, j, incremented_entry(p, start, known, e));
+    receive(b, r, j, known, 1);
+}
+
+// Lines 32 to 38, for one entry of a clear.
+fn clear_entry(b: &mut [u64], r: usize, q: usize, entry: ClearEntry)
+    requires { ⌜ Row (now b) r q × (entry .card < r) ⌝ }
+    ensures { λ _. ⌜ now (b .exit) ≡ entry-cleared r q entry (now (b .entry)) ⌝ }
+{
+    let j = entry.card as usize;
+    let known = words::increments_at(b, j);
+    let e = words::entry_at(b, r, q, j);
+    words::put_entry(b, r, q, j, cleared_entry(entry.p, entry.c, known, e));
+}
+
+// Lines 30 to 38, for a clear of card j on counter q. It brings no increment, so C stays.
+pub(crate) fn apply_clear(
+    b: &mut [u64],
+    r: usize,
+    q: usize,
+    j: usize,
+    entries: [ClearEntry; 16],
+    len: usize,
+)
+    requires { ⌜ Receives (now b) r q j × (len ≤ 16) × CardsBelow r (take len entries) ⌝ }
+    ensures { λ _. ⌜ now (b .exit) ≡ taken-words r (counters (now (b .entry))) (layout r (counters (now (b .entry)))) j (clearing q (take len entries)) (now (b .entry)) ⌝ }
+{
+    let known = words::increments_at(b, j);
+    let mut i: usize = 0;
+    while i < len {
+        let entry = entries[i];
+        clear_entry(b, r, q, entry);
+        i += 1;
+    }
+    receive(b, r, j, known, 0);
+}
+
+fn sent_entry(j: usize, e: Entry) -> ClearEntry
+    requires { ⌜ j < 16 ⌝ }
+    ensures { λ a. ⌜ a ≡ sent-entry j e ⌝ }
+{
+    if 0 < e.p {
+        return ClearEntry {
+            card: j as u32,
+            p: e.p,
+            c: e.c,
+        };
+    }
+    NO_ENTRY
+}
+
+fn sent_count(e: Entry) -> usize
+    ensures { λ a. ⌜ a ≡ cond (present e) 1 0 ⌝ }
+{
+    (0 < e.p) as usize
+}
+
+// Line 29: every present entry. An absent one is stored too, as the zeros that stand there already, so that the loop has no branch.
+pub(crate) fn present_entries(b: &[u64], r: usize, q: usize) -> Held
+    requires { ⌜ Row (now b) r q ⌝ }
+    ensures { λ a. ⌜ a ≡ held (present-entries r (entry-of r (now (b .entry)) q)) ⌝ }
+{
+    let mut entries = [NO_ENTRY; 16];
+    let mut len: usize = 0;
+    let mut j: usize = 0;
+    while j < r {
+        let e = words::entry_at(b, r, q, j);
+        entries[len] = sent_entry(j, e);
+        len += sent_count(e);
+        j += 1;
+    }
+    Held { len, entries }
+}

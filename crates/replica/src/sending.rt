@@ -1,0 +1,37 @@
+// What count and clear share: the checks before a message is made, in document 01's order 1, 3, 2, 4, and the answer of a call that declines.
+use crate::words;
+use replica_model::Sent;
+ghost use mathlib.Core.Path.{_≡_};
+ghost use Rattle.replica.specs.SendLaws.{no-sent, send-refusal};
+
+pub(crate) fn refused(number: u64) -> Sent
+    ensures { λ a. ⌜ a ≡ no-sent number ⌝ }
+{
+    Sent {
+        number,
+        sequence: 0,
+        length: 0,
+    }
+}
+
+// The number of the first check that fails, 0 where none does.
+pub(crate) fn refusal(words: &[u64], counter: u64) -> u64
+    ensures { λ a. ⌜ a ≡ send-refusal (now (words .entry)) counter ⌝ }
+{
+    if !words::is_right(words) {
+        return protocol::WRONG_REPLICA;
+    }
+    let r = words::cards_of(words);
+    let k = words::counters_of(words);
+    if k <= counter {
+        return protocol::NO_SUCH_COUNTER;
+    }
+    if !words::is_row_well_formed(words, r, words::index(counter)) {
+        return protocol::NOT_WELL_FORMED;
+    }
+    let own = words::own_card(words);
+    if words::messages_at(words, r, own) == protocol::MAX {
+        return protocol::NO_MORE_MESSAGES;
+    }
+    0
+}
