@@ -2,8 +2,9 @@
 use Prim.Native.Nat.{ℕ, zero, suc, _+_, _*_, _≤_, _<_}
 use mathlib.Core.Path.{_≡_, refl, _∙_}
 use mathlib.Core.List.{List, [], _++_}
+use native.Mathlib.Nat.{suc-mul}
 use native.Mathlib.Omega.{arith}
-use lib.ListN.{length}
+use lib.ListN.{length, length-append}
 use lib.Seq.{take-all, drop-at}
 use Rattle.protocol.specs.Cases.{by-place}
 use Rattle.protocol.specs.Ledger.{empty-ledger}
@@ -13,7 +14,6 @@ use Rattle.replica_model.specs.Layout.{replica-length, fresh-words}
 use Rattle.replica_model.specs.Store.{fresh-shows}
 use Rattle.chassis_model.specs.Parts.{part}
 use Rattle.chassis_model.specs.PartLaws.{part-room, part-front}
-use Rattle.chassis_model.specs.Begin.{fresh-length}
 use Rattle.chassis_model.specs.Run.{replica-of, log-of, fresh-replicas}
 use Rattle.chassis_model.specs.LogLaws.{log-bytes}
 use Rattle.chassis_model.specs.Numbered.{numbered, wire-log}
@@ -24,11 +24,17 @@ use Rattle.chassis_model.specs.Moves.{alike-same}
 -- ---- the parts of the fresh words
 
 module _ (r k : ℕ) where
+  pub fresh-length : (n : ℕ) → length (fresh-replicas r k n) ≡ n * replica-length r k
+  unfolding fresh-replicas
+  fresh-length zero = omega arith
+  fresh-length (suc n) =
+      length-append (fresh-replicas r k n) (fresh-words r k n) ∙ omega (arith, fresh-length n, fresh-shows r k n .fits, suc-mul n (replica-length r k))
+
   -- the last of n + 1 parts
   last-part : (n : ℕ) → part (replica-length r k) (fresh-replicas r k n ++ fresh-words r k n) n ≡ fresh-words r k n
   unfolding part
   last-part n =
-      rw (drop-at (fresh-replicas r k n) (fresh-words r k n) (n * replica-length r k) (fresh-length r k n))
+      rw (drop-at (fresh-replicas r k n) (fresh-words r k n) (n * replica-length r k) (fresh-length n))
       (take-all (replica-length r k) (fresh-words r k n) (let e = fresh-shows r k n .fits in omega arith))
 
   fresh-part : (n i : ℕ) → i < n → part (replica-length r k) (fresh-replicas r k n) i ≡ fresh-words r k i
@@ -39,7 +45,7 @@ module _ (r k : ℕ) where
       (λ e. rw e (last-part n))
       (λ d.
       let m : i < n = omega arith in
-      let room : i * replica-length r k + replica-length r k ≤ length (fresh-replicas r k n) = rw (fresh-length r k n) (part-room i n (replica-length r k) m) in
+      let room : i * replica-length r k + replica-length r k ≤ length (fresh-replicas r k n) = rw (fresh-length n) (part-room i n (replica-length r k) m) in
       part-front (replica-length r k) i (fresh-replicas r k n) (fresh-words r k n) room ∙ fresh-part n i m)
 
 -- ---- the state

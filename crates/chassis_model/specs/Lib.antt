@@ -10,10 +10,9 @@ pub mod Answers
 -- CLAIMS
 pub mod Claims
 pub mod Scenarios
--- LAWS. Lists in parts, logs of messages, how a run begins.
+-- LAWS. Lists in parts, logs of messages.
 pub mod PartLaws
 pub mod LogLaws
-pub mod Begin
 pub mod Numbered
 -- A reached state beside the theory's chassis and ledgers; its two moves; what take accepts and what a card sends.
 pub mod Matches

@@ -19,11 +19,15 @@ use Rattle.replica_model.specs.Store.{layout, C-entry, three-length}
 use Rattle.replica.specs.Rows.{Row, row-set-entry}
 use Rattle.replica.specs.declared.effect.Held.{Held}
 
+-- the largest that a word can hold
+abbrev pub last-word : ℕ
+last-word = 18446744073709551615
+
 -- what an effector asks: a row inside the words, the message's card in it, and room to count one more message of that card
 pub record Receives (b : List ℕ) (r q j : ℕ) : Type 0 where
   pub row : Row b r q
   pub card : j < r
-  pub N-room : N-of r b j < 18446744073709551615
+  pub N-room : N-of r b j < last-word
 
 -- a message of card j, of which C was `known`, that brings w increments
 abbrev pub received : ℕ → ℕ → ℕ → ℕ → List ℕ → List ℕ
@@ -112,11 +116,25 @@ pub flag-small : (t : Bool) → cond t 1 0 ≤ 1
 flag-small true = omega arith
 flag-small false = omega arith
 
-module _ (row : ℕ → Entry) where
-  one-more : (t : Bool) (es : List ClearEntry) (e : ClearEntry) → length (es ++ cond t (e ∷ []) []) ≡ length es + cond t 1 0
-  one-more true es e = length-append es (e ∷ [])
-  one-more false es e = length-append es []
+one-more : (t : Bool) (es : List ClearEntry) (e : ClearEntry) → length (es ++ cond t (e ∷ []) []) ≡ length es + cond t 1 0
+one-more true es e = length-append es (e ∷ [])
+one-more false es e = length-append es []
 
+-- the padding gives up its first place, or keeps it
+first-set : (es : List ClearEntry) (e : ClearEntry) → length es < 16 → set (padded es) (length es) e ≡ es ++ e ∷ replicate (15 - length es) no-entry
+first-set es e l =
+    let more : 16 - length es ≡ suc (15 - length es) = omega arith in
+    rw more (set-append-seam es no-entry (replicate (15 - length es) no-entry) e)
+
+one-set : (t : Bool) (es : List ClearEntry) (e : ClearEntry) → length es < 16 → set (padded es) (length es) (cond t e no-entry) ≡ padded (es ++ cond t (e ∷ []) [])
+one-set true es e l =
+    let less : 16 - (length es + 1) ≡ 15 - length es = omega arith in
+    first-set es e l ∙ rw (length-append es (e ∷ []), less, append-snoc es e (replicate (15 - length es) no-entry))
+one-set false es e l =
+    let more : 16 - length es ≡ suc (15 - length es) = omega arith in
+    first-set es no-entry l ∙ rw (append-nil es, more)
+
+module _ (row : ℕ → Entry) where
   pub present-length : (j : ℕ) → length (present-entries (suc j) row) ≡ length (present-entries j row) + cond (present (row j)) 1 0
   unfolding present-entries
   present-length j = one-more (present (row j)) (present-entries j row) (record { card = j; p = row j .p; c = row j .c })
@@ -125,20 +143,6 @@ module _ (row : ℕ → Entry) where
   unfolding present-entries
   present-few zero = omega arith
   present-few (suc j) = omega (arith, present-length j, flag-small (present (row j)), present-few j)
-
-  -- the padding gives up its first place, or keeps it
-  first-set : (es : List ClearEntry) (e : ClearEntry) → length es < 16 → set (padded es) (length es) e ≡ es ++ e ∷ replicate (15 - length es) no-entry
-  first-set es e l =
-      let more : 16 - length es ≡ suc (15 - length es) = omega arith in
-      rw more (set-append-seam es no-entry (replicate (15 - length es) no-entry) e)
-
-  one-set : (t : Bool) (es : List ClearEntry) (e : ClearEntry) → length es < 16 → set (padded es) (length es) (cond t e no-entry) ≡ padded (es ++ cond t (e ∷ []) [])
-  one-set true es e l =
-      let less : 16 - (length es + 1) ≡ 15 - length es = omega arith in
-      first-set es e l ∙ rw (length-append es (e ∷ []), less, append-snoc es e (replicate (15 - length es) no-entry))
-  one-set false es e l =
-      let more : 16 - length es ≡ suc (15 - length es) = omega arith in
-      first-set es no-entry l ∙ rw (append-nil es, more)
 
   pub padded-turn : (j : ℕ) → length (present-entries j row) < 16
       → set (padded (present-entries j row)) (length (present-entries j row)) (sent-entry j (row j)) ≡ padded (present-entries (suc j) row)

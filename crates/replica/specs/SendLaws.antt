@@ -17,12 +17,12 @@ use Rattle.protocol.specs.Chassis.{increment, clearing, count-message, clear-me
 use Rattle.protocol.specs.Stores.{CardsBelow, shown, taken-words}
 use Rattle.wire.specs.Message as form
 use Rattle.wire.specs.Message.{increment-message, message-bytes, no-entry, over}
+use Rattle.replica_model.specs.declared.Sent.{Sent}
 use Rattle.replica_model.specs.Layout.{cards, counters, own-card, C-of, N-of, entry-of}
 use Rattle.replica_model.specs.Store.{layout}
 use Rattle.replica_model.specs.Calls.{check, right, row-well-formed, state, SendOutcome, not-sent, sent, sending}
-use Rattle.replica_model.specs.declared.Sent.{Sent}
-use Rattle.replica.specs.Rows.{Row, row, Card, card-facts}
 use Rattle.replica_model.specs.RowLaws.{right-facts}
+use Rattle.replica.specs.Rows.{Row, row, Card, card-facts}
 use Rattle.replica.specs.Effects.{Receives, flag-is, held, present-few}
 use Rattle.replica.specs.declared.effect.Held.{Held}
 
@@ -110,19 +110,19 @@ pub clear-sends : (b : List ℕ) (q : ℕ) → clear-message (cards b) q (state 
 unfolding clear-message shown
 clear-sends b q = refl
 
+below-more : (n : ℕ) (es : List ClearEntry) → CardsBelow n es → CardsBelow (suc n) es
+below-more n [] h = tt
+below-more n (e ∷ es) h = (omega (arith, h .0), below-more n es (h .1))
+
+below-last : (n : ℕ) (es : List ClearEntry) (e : ClearEntry) → CardsBelow n es → e .card < n → CardsBelow n (es ++ e ∷ [])
+below-last n [] e h l = (l, tt)
+below-last n (x ∷ es) e h l = (h .0, below-last n es e (h .1) l)
+
+below-next : (t : Bool) (n : ℕ) (es : List ClearEntry) (e : ClearEntry) → e .card ≡ n → CardsBelow n es → CardsBelow (suc n) (es ++ cond t (e ∷ []) [])
+below-next true n es e c h = below-last (suc n) es e (below-more n es h) (omega arith)
+below-next false n es e c h = rw (append-nil es) (below-more n es h)
+
 module _ (row : ℕ → Entry) where
-  below-more : (n : ℕ) (es : List ClearEntry) → CardsBelow n es → CardsBelow (suc n) es
-  below-more n [] h = tt
-  below-more n (e ∷ es) h = (omega (arith, h .0), below-more n es (h .1))
-
-  below-last : (n : ℕ) (es : List ClearEntry) (e : ClearEntry) → CardsBelow n es → e .card < n → CardsBelow n (es ++ e ∷ [])
-  below-last n [] e h l = (l, tt)
-  below-last n (x ∷ es) e h l = (h .0, below-last n es e (h .1) l)
-
-  below-next : (t : Bool) (n : ℕ) (es : List ClearEntry) (e : ClearEntry) → e .card ≡ n → CardsBelow n es → CardsBelow (suc n) (es ++ cond t (e ∷ []) [])
-  below-next true n es e c h = below-last (suc n) es e (below-more n es h) (omega arith)
-  below-next false n es e c h = rw (append-nil es) (below-more n es h)
-
   pub present-below : (n : ℕ) → CardsBelow n (present-entries n row)
   unfolding present-entries
   present-below zero = tt

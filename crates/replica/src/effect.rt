@@ -13,7 +13,7 @@ ghost use Rattle.protocol.specs.Stores.{CardsBelow, taken-words};
 ghost use Rattle.replica_model.specs.Layout.{counters, at-N, C-of, N-of, entry-of};
 ghost use Rattle.replica_model.specs.Store.{layout};
 ghost use Rattle.replica.specs.Rows.{Row};
-ghost use Rattle.replica.specs.Effects.{Receives, received, entry-cleared, sent-entry, held};
+ghost use Rattle.replica.specs.Effects.{last-word, Receives, received, entry-cleared, sent-entry, held};
 
 const ABSENT: Entry = Entry { p: 0, n: 0, c: 0 };
 
@@ -79,7 +79,7 @@ fn without_settled(known: u64, e: Entry) -> Entry
 
 // An increment; `known` is C of its sender before it.
 pub(crate) fn incremented_entry(p: u64, start: bool, known: u64, e: Entry) -> Entry
-    requires { ⌜ (1 ≤ p) × (known < 18446744073709551615) ⌝ }
+    requires { ⌜ (1 ≤ p) × (known < last-word) ⌝ }
     ensures { λ a. ⌜ a ≡ incremented 1 p start known e ⌝ }
 {
     let n = brought_n(p, start, e);
@@ -102,7 +102,7 @@ pub(crate) fn cleared_entry(p: u64, c: u64, known: u64, e: Entry) -> Entry
 
 // A message of card j has come: N[j] rises by one, and C[j], which was `known`, by the increments that the message brings (line 26).
 fn receive(b: &mut [u64], r: usize, j: usize, known: u64, increments: u64)
-    requires { ⌜ (at-N r j < length (now b)) × (known + increments < 18446744073709551616) × (N-of r (now b) j < 18446744073709551615) ⌝ }
+    requires { ⌜ (at-N r j < length (now b)) × (known + increments ≤ last-word) × (N-of r (now b) j < last-word) ⌝ }
     ensures { λ _. ⌜ now (b .exit) ≡ received r j known increments (now (b .entry)) ⌝ }
 {
     let messages = words::messages_at(b, r, j);
@@ -112,7 +112,7 @@ fn receive(b: &mut [u64], r: usize, j: usize, known: u64, increments: u64)
 
 // Lines 17 to 26, for an increment of card j on counter q.
 pub(crate) fn apply_increment(b: &mut [u64], r: usize, q: usize, j: usize, p: u64, start: bool)
-    requires { ⌜ Receives (now b) r q j × (1 ≤ p) × (C-of (now b) j < 18446744073709551615) ⌝ }
+    requires { ⌜ Receives (now b) r q j × (1 ≤ p) × (C-of (now b) j < last-word) ⌝ }
     ensures { λ _. ⌜ now (b .exit) ≡ taken-words r (counters (now (b .entry))) (layout r (counters (now (b .entry)))) j (increment q 1 p start) (now (b .entry)) ⌝ }
 {
     let known = words::increments_at(b, j);

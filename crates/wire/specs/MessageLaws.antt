@@ -1,4 +1,4 @@
--- LAWS. Messages.
+-- LAWS. What reading answers, case by case: by the length, the version, the kind and the ranges; and the message that a longer list starts with. Assumes nothing.
 use mathlib.Core.Path.{_≡_, refl, sym, _∙_}
 use Prim.Native.Nat.{ℕ, _+_, _-_, _*_, _≤_, _<_}
 use mathlib.Core.List.{List, _++_}

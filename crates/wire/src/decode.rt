@@ -44,7 +44,7 @@ fn refuse() -> Reading
         p: 0,
         start: 0,
         len: 0,
-        entries: [NO_ENTRY; 16],
+        entries: [NO_ENTRY; range::MOST_ENTRIES],
     };
     Reading {
         number: protocol::UNREADABLE,
@@ -76,7 +76,7 @@ fn read_increment(bytes: &[u8]) -> Reading
             p,
             start,
             len: 0,
-            entries: [NO_ENTRY; 16],
+            entries: [NO_ENTRY; range::MOST_ENTRIES],
         };
         return Reading { number: 0, message };
     }
@@ -99,7 +99,7 @@ fn read_entries(bytes: &[u8], sender: u32, sequence: u64, counter: u32, count: u
     requires { ⌜ (count ≤ 16) × (28 + 20 * count ≤ length (now bytes)) ⌝ }
     ensures { λ r. ⌜ r ≡ clear-reading sender sequence counter (entries-at count (now (bytes .entry)) 28) ⌝ }
 {
-    let mut entries = [NO_ENTRY; 16];
+    let mut entries = [NO_ENTRY; range::MOST_ENTRIES];
     let mut low: u64 = 0;
     let mut fit = true;
     let mut i: usize = 0;

@@ -97,7 +97,7 @@ fn message_in_range(m: Message) -> bool
         & range::body_in_range(m.kind, m.p, m.start, len);
     let mut low: u64 = 0;
     let mut i: usize = 0;
-    while i < 16 {
+    while i < range::MOST_ENTRIES {
         let entry = m.entries[i];
         fit = fit & place_in_range(i < len, low, entry);
         low = range::next_card(entry);

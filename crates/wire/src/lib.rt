@@ -4,7 +4,7 @@ use protocol::ClearEntry;
 pub mod decode;
 pub mod encode;
 pub mod number;
-pub mod range;
+mod range;
 
 pub const VERSION: u32 = 1;
 

@@ -1,0 +1,130 @@
+//! Times the library beside the Rust reference and rpcgen's C: one process, sides in turn, the
+//! least of many rounds. `yelansub_bench` prints everything; `yelansub_bench one ITEM SIDE N`
+//! does one thing N times, for callgrind; `yelansub_bench list` names items and sides.
+
+mod clock;
+mod items;
+mod rpcgen;
+
+use std::time::Duration;
+
+use items::{Item, State, Work};
+
+fn main() {
+    let arguments: Vec<String> = std::env::args().skip(1).collect();
+    match arguments.iter().map(String::as_str).collect::<Vec<_>>()[..] {
+        [] => everything(),
+        ["list"] => list(),
+        ["one", item, side, times] => one(item, side, times.parse().expect("a number")),
+        _ => {
+            eprintln!("yelansub_bench [list | one ITEM SIDE TIMES]");
+            std::process::exit(2);
+        }
+    }
+}
+
+fn everything() {
+    check();
+    println!("Least of many rounds, nanoseconds a call, 16 cards and 64 counters.");
+    println!("Ratio: the library's time over the other side's; below 1 the library is faster.\n");
+    for item in items::calls() {
+        print(&item, &least(&item, 3_000));
+    }
+    println!();
+    for item in items::messages() {
+        print(&item, &least(&item, 3_000));
+    }
+    println!();
+    let runs = items::runs();
+    let times: Vec<Vec<Duration>> = runs.iter().map(|run| least(run, rounds_of(run))).collect();
+    for (run, times) in runs.iter().zip(&times) {
+        print(run, times);
+    }
+    println!("\nA step, without what a run of no steps takes:");
+    for (run, times_of) in runs.iter().zip(&times).skip(1) {
+        let a_step = |side: usize| {
+            times_of[side].saturating_sub(times[0][side]).as_nanos() as f64 / run.calls as f64
+        };
+        println!("{:38} library {:8.1}   reference {:8.1}", run.name, a_step(0), a_step(1));
+    }
+}
+
+fn rounds_of(run: &Item) -> u32 {
+    (2_000_000 / run.calls.max(1_000)) as u32
+}
+
+/// All sides that change the state leave it the same, and rpcgen writes the same bytes.
+fn check() {
+    for item in items::calls().iter().chain(&items::runs()) {
+        let mut states: Vec<State> = item.sides.iter().map(|_| (item.make)()).collect();
+        for (state, (_, work)) in states.iter_mut().zip(&item.sides) {
+            bench_work(state, *work);
+        }
+        let alike = states.windows(2).all(|p| items::outcome(&p[0]) == items::outcome(&p[1]));
+        assert!(alike, "{}: the sides differ", item.name);
+    }
+    for item in items::messages() {
+        assert!(items::rpcgen_agrees(&mut (item.make)()), "{}: rpcgen differs", item.name);
+    }
+}
+
+/// The least time of a batch, for each side; the sides take turns, and so does the first place.
+fn least(item: &Item, rounds: u32) -> Vec<Duration> {
+    let mut states: Vec<State> = item.sides.iter().map(|_| (item.make)()).collect();
+    let mut best = vec![Duration::MAX; states.len()];
+    let now = || clock::now(if item.long { clock::THREAD } else { clock::MONOTONIC });
+    for round in 0..rounds as usize {
+        for turn in 0..states.len() {
+            let side = (round + turn) % states.len();
+            states[side].put_back();
+            let begin = now();
+            bench_work(&mut states[side], item.sides[side].1);
+            best[side] = best[side].min(now() - begin);
+        }
+    }
+    best
+}
+
+fn print(item: &Item, times: &[Duration]) {
+    let a_call = |time: &Duration| time.as_nanos() as f64 / item.calls as f64;
+    print!("{:38}", item.name);
+    for ((name, _), time) in item.sides.iter().zip(times) {
+        print!(" {name} {:8.1}", a_call(time));
+        if *name != "library" {
+            print!(" ratio {:5.2} ", a_call(&times[0]) / a_call(time));
+        }
+    }
+    println!();
+}
+
+/// The one function whose inside callgrind counts.
+#[no_mangle]
+#[inline(never)]
+extern "Rust" fn bench_work(state: &mut State, work: Work) {
+    work(state);
+}
+
+fn all() -> Vec<Item> {
+    let mut all = items::calls();
+    all.extend(items::messages());
+    all.extend(items::runs());
+    all
+}
+
+fn list() {
+    for item in all() {
+        for (side, _) in &item.sides {
+            println!("{}\t{side}\t{}", item.name, item.calls);
+        }
+    }
+}
+
+fn one(name: &str, side: &str, times: u32) {
+    let item = all().into_iter().find(|item| item.name == name).expect("an item of the list");
+    let work = item.sides.iter().find(|(of, _)| *of == side).expect("a side of the item").1;
+    let mut state = (item.make)();
+    for _ in 0..times {
+        state.put_back();
+        bench_work(&mut state, work);
+    }
+}

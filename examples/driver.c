@@ -1,0 +1,95 @@
+/*
+ * A driver in one process: line cards 0 and 1, and the console as card 2. The
+ * cards count drops on counter 0, the console reads, and in the evening clears.
+ *
+ *   cc -std=c11 -Iinclude examples/driver.c -Ltarget/staticlib -lyelansub
+ */
+#include <inttypes.h>
+#include <stdio.h>
+#include <stdlib.h>
+
+#include "yelansub.h"
+
+enum { CARDS = 3, COUNTERS = 4, CONSOLE = 2, DROPS = 0 };
+
+/* The driver owns all memory: one replica for each card. */
+static uint64_t replica[CARDS][YELANSUB_REPLICA_WORDS(CARDS, COUNTERS)];
+static const size_t words = YELANSUB_REPLICA_WORDS(CARDS, COUNTERS);
+
+/* A message on its way. A driver would put these bytes on the backplane. */
+struct packet {
+    uint8_t bytes[YELANSUB_LONGEST_MESSAGE];
+    uint64_t length;
+};
+
+static struct packet sent(const char *what, unsigned card, struct yelansub_sent answer,
+                          struct packet packet)
+{
+    if (answer.number != YELANSUB_OK) {
+        printf("card %u: %s refused, %" PRIu64 "\n", card, what, answer.number);
+        exit(1);
+    }
+    packet.length = answer.length;
+    printf("card %u: %s, message %" PRIu64 " of %" PRIu64 " bytes\n", card, what,
+           answer.sequence, answer.length);
+    return packet;
+}
+
+/* A drop on a port: counted here at once, and a message for the others. */
+static struct packet on_drop(unsigned card)
+{
+    struct packet packet = {.length = 0};
+    struct yelansub_sent answer =
+        yelansub_count(replica[card], words, DROPS, packet.bytes, sizeof packet.bytes);
+    return sent("drop", card, answer, packet);
+}
+
+static struct packet evening(unsigned card)
+{
+    struct packet packet = {.length = 0};
+    struct yelansub_sent answer =
+        yelansub_clear(replica[card], words, DROPS, packet.bytes, sizeof packet.bytes);
+    return sent("clear", card, answer, packet);
+}
+
+/* A message has come. 8 is a repeat, to be dropped; after 9 an earlier one is still due. */
+static void on_message(unsigned card, const struct packet *packet)
+{
+    struct yelansub_taken taken = yelansub_take(replica[card], words, packet->bytes, packet->length);
+    if (taken.number == YELANSUB_OK)
+        printf("card %u: took message %" PRIu64 "\n", card, taken.sequence);
+    else
+        printf("card %u: message refused, %" PRIu64 "\n", card, taken.number);
+}
+
+static void show(unsigned card)
+{
+    struct yelansub_reading reading = yelansub_read(replica[card], words, DROPS);
+    printf("card %u: %" PRIu64 " drops, holders %" PRIx64 "\n", card, reading.value,
+           reading.holders);
+}
+
+int main(void)
+{
+    for (unsigned card = 0; card < CARDS; card++)
+        if (yelansub_open(replica[card], words, CARDS, COUNTERS, card) != YELANSUB_OK)
+            return 1;
+
+    struct packet first = on_drop(0), second = on_drop(0), other = on_drop(1);
+    on_message(CONSOLE, &first);
+    on_message(CONSOLE, &first);  /* repeated: 8, the drop is not counted twice */
+    on_message(CONSOLE, &other);
+    show(CONSOLE);
+
+    struct packet clear = evening(CONSOLE);
+    show(CONSOLE);
+    struct packet third = on_drop(0);
+    on_message(CONSOLE, &third);  /* early: 9, the second has not come */
+    on_message(CONSOLE, &second);
+    on_message(CONSOLE, &third);
+    show(CONSOLE);                /* the drops that the clear had not seen */
+
+    on_message(0, &clear);
+    show(0);                      /* the same two on the card that counted them */
+    return 0;
+}

@@ -1,0 +1,182 @@
+/*
+ * yelansub.h - replicated clearing counters for a chassis of line cards.
+ *
+ * Each card keeps a replica: plain words that the driver owns. Counting and
+ * clearing change the own replica at once and write a message, which the driver
+ * carries to every other card, each link in order. Nothing here prints,
+ * allocates, blocks or keeps state, so calls on different replicas may run at
+ * the same time.
+ *
+ * Every call takes any pointer and length that are valid memory, NULL with
+ * length 0 included, and answers by number. Words are aligned as uint64_t.
+ * Buffers of one call must not overlap. A refused call writes nothing: replica,
+ * output, logs and answers stay as they were, and the other numbers of its
+ * answer are 0.
+ */
+#ifndef YELANSUB_H
+#define YELANSUB_H
+
+#include <stddef.h>
+#include <stdint.h>
+
+#ifdef __cplusplus
+extern "C" {
+#endif
+
+/* Limits: cards 0 to r - 1, counters 0 to k - 1. */
+#define YELANSUB_MOST_CARDS 16
+#define YELANSUB_MOST_COUNTERS 64
+/* The largest sequence, and the most increments of one card: 2^48 - 1. */
+#define YELANSUB_MAX UINT64_C(281474976710655)
+
+/* Words of one replica, for r cards and k counters. */
+#define YELANSUB_REPLICA_WORDS(cards, counters) \
+    (3 + 2 * (size_t)(cards) + 3 * (size_t)(cards) * (size_t)(counters))
+
+/* Bytes of a message: an increment, a clear of e entries, and the longest. */
+#define YELANSUB_INCREMENT_BYTES 36
+#define YELANSUB_CLEAR_BYTES(entries) (28 + 20 * (size_t)(entries))
+#define YELANSUB_LONGEST_MESSAGE 348
+
+/* Bytes of one step of yelansub_run. */
+#define YELANSUB_STEP_BYTES 12
+
+/* Numbers that a call answers. */
+#define YELANSUB_OK 0
+#define YELANSUB_BAD_REPLICA 1      /* replica length, r, k or own card wrong */
+#define YELANSUB_BAD_ROW 2          /* the counter's row is not well-formed */
+#define YELANSUB_BAD_COUNTER 3      /* counter not below k */
+#define YELANSUB_EXHAUSTED 4        /* the card has made YELANSUB_MAX messages */
+#define YELANSUB_SHORT_OUTPUT 5     /* output shorter than the message */
+#define YELANSUB_UNREADABLE 6       /* the bytes are not one message */
+#define YELANSUB_BAD_CARD 7         /* a card not below r, or the own card as sender */
+#define YELANSUB_REPEATED 8         /* this message of the sender has been taken */
+#define YELANSUB_EARLY 9            /* an earlier message of the sender is missing */
+#define YELANSUB_IMPLAUSIBLE 10     /* no card can have sent this next */
+#define YELANSUB_BAD_SIZES 11       /* sizes of a run wrong */
+#define YELANSUB_BAD_KIND 12        /* step kind not 1, 2 or 3 */
+#define YELANSUB_NOTHING_WAITING 13 /* nothing to deliver on this link */
+#define YELANSUB_LOG_FULL 14        /* the card's log is too short for the message */
+
+/* Kinds of step. */
+#define YELANSUB_STEP_COUNT 1       /* card, counter */
+#define YELANSUB_STEP_CLEAR 2       /* card, counter */
+#define YELANSUB_STEP_DELIVER 3     /* receiver, sender */
+
+/*
+ * Writes a fresh replica of card `own` for `cards` cards and `counters`
+ * counters. Answers 0, or
+ *   1  words_len is not YELANSUB_REPLICA_WORDS(cards, counters), cards is not 1
+ *      to 16, counters is not 1 to 64, or own is not below cards.
+ * The words are, in order: r, k, own card; C[j] for each card, its increments
+ * received; N[j] for each card, its messages received; then, counter by counter,
+ * p, n and c for each card, zeros where that card has no entry.
+ */
+uint64_t yelansub_open(uint64_t *words, size_t words_len,
+                       uint64_t cards, uint64_t counters, uint64_t own);
+
+struct yelansub_reading {
+    uint64_t number;
+    uint64_t value;        /* increments received and not cleared */
+    uint64_t holders;      /* bit j is one if card j has an entry */
+    uint64_t holder_count; /* ones in holders */
+};
+
+/*
+ * Reads one counter. Refused with, in this order,
+ *   1  the words are no replica (length, r, k or own card),
+ *   3  counter is not below k,
+ *   2  the counter's row is not well-formed: memory was damaged.
+ */
+struct yelansub_reading yelansub_read(const uint64_t *words, size_t words_len, uint64_t counter);
+
+struct yelansub_sent {
+    uint64_t number;
+    uint64_t sequence; /* of the message made, counting this card's from 1 */
+    uint64_t length;   /* bytes of it written to out; those past it keep their values */
+};
+
+/*
+ * Counts one on the own card and writes the message to send, always 36 bytes.
+ * Refused with, in this order,
+ *   1, 3, 2  as yelansub_read,
+ *   4  the card has made its last message,
+ *   5  out_len is below YELANSUB_INCREMENT_BYTES.
+ * After a refusal neither the replica nor the output has changed: the drop is
+ * not counted.
+ */
+struct yelansub_sent yelansub_count(uint64_t *words, size_t words_len, uint64_t counter,
+                                    uint8_t *out, size_t out_len);
+
+/*
+ * Clears what this card has seen of a counter and writes the message to send,
+ * 28 bytes and 20 more for each holder; YELANSUB_LONGEST_MESSAGE bytes of output
+ * are enough for any. Refused as yelansub_count, with
+ *   5  out_len is below the length of this message.
+ */
+struct yelansub_sent yelansub_clear(uint64_t *words, size_t words_len, uint64_t counter,
+                                    uint8_t *out, size_t out_len);
+
+struct yelansub_taken {
+    uint64_t number;
+    uint64_t sequence; /* of the message taken */
+};
+
+/*
+ * Takes one message of another card. Messages of one sender must come in the
+ * order made; those of different senders may come in any. Refused with, in this
+ * order,
+ *   1   the words are no replica,
+ *   6   the bytes are not exactly one message, or a field is out of range,
+ *   3   the message's counter is not below k,
+ *   2   the counter's row is not well-formed,
+ *   7   the sender or a card of the message is not below r, or the sender is
+ *       this card,
+ *   8   this message has been taken before: drop it,
+ *   9   a message of this sender is missing before it: keep it and try again,
+ *   10  no card of this chassis can have sent it next.
+ */
+struct yelansub_taken yelansub_take(uint64_t *words, size_t words_len,
+                                    const uint8_t *message, size_t message_len);
+
+struct yelansub_span {
+    uint64_t start;
+    uint64_t length;
+};
+
+/*
+ * Where message number q of a log stands, counting from 1. The log holds
+ * messages end to end. Answers start and length in bytes, or 0 and 0 if q is 0
+ * or the log does not begin with q messages that read.
+ */
+struct yelansub_span yelansub_waiting(const uint8_t *log, size_t log_len, uint64_t q);
+
+/*
+ * Runs steps on a whole chassis that begins fresh. words holds the cards'
+ * replicas, card by card; logs holds log_bytes bytes for each card, where its
+ * messages are put end to end; answers has one word for each step. A step is
+ * three unsigned ints, big-endian: kind (YELANSUB_STEP_...), then card and
+ * counter, or receiver and sender. Answers 0, or
+ *   11  cards is not 1 to 16, counters is not 1 to 64, steps_len is no multiple
+ *       of 12, or words_len, logs_len or answers_len does not fit.
+ * Each step's answer is 0, or the first of
+ *   12  the kind is not 1, 2 or 3,
+ *   7   a card is not below cards, or a delivery names one card twice,
+ *   3   the counter is not below counters (not for a delivery),
+ *   4   the card has made its last message (count and clear),
+ *   14  the card's log has too little room left (count and clear),
+ *   13  the sender has no message that the receiver has not had (delivery).
+ * A refused step changes no replica and no log; the run goes on after it. Log
+ * bytes past a card's messages keep their values and never count as messages.
+ */
+uint64_t yelansub_run(uint64_t cards, uint64_t counters, uint64_t log_bytes,
+                      const uint8_t *steps, size_t steps_len,
+                      uint64_t *words, size_t words_len,
+                      uint8_t *logs, size_t logs_len,
+                      uint64_t *answers, size_t answers_len);
+
+#ifdef __cplusplus
+}
+#endif
+
+#endif

@@ -1,0 +1,80 @@
+//! Holds the listing program against the reference's listing, byte for byte:
+//! `cargo run --release --offline --bin listing_differential -- PROGRAM [CASES] [SEED]`.
+
+use std::io::Write;
+use std::process::{Command, Stdio};
+
+use yelansub_reference::chassis::Step;
+use yelansub_reference::listing::{listing, LONGEST_INPUT, MAX_CARDS, MAX_COUNTERS, MAX_STEPS};
+use yelansub_reference::random::Random;
+
+fn main() {
+    let mut arguments = std::env::args().skip(1);
+    let program = arguments.next().expect("the listing program");
+    let cases = arguments.next().map_or(600, |a| a.parse().expect("a number"));
+    let seed = arguments.next().map_or(14, |a| a.parse().expect("a number"));
+    let mut refused = 0;
+    for case in 0..cases {
+        let input = input(&mut Random::case(seed, case));
+        let expected = listing(&input);
+        refused += u64::from(expected.starts_with("refused"));
+        let printed = printed(&program, &input);
+        let printed = String::from_utf8_lossy(&printed);
+        assert_eq!(printed, expected, "seed {seed} case {case}, input {input:?}");
+    }
+    println!("listing: {cases} inputs from seed {seed}, {refused} refused, all printed alike");
+    assert!(0 < refused && refused < cases);
+}
+
+fn printed(program: &str, input: &[u8]) -> Vec<u8> {
+    let mut child = Command::new(program)
+        .stdin(Stdio::piped())
+        .stdout(Stdio::piped())
+        .spawn()
+        .expect("the program starts");
+    // A program that has refused may close its input early.
+    let _ = child.stdin.take().expect("piped").write_all(input);
+    let output = child.wait_with_output().expect("the program ends");
+    output.stdout
+}
+
+fn input(random: &mut Random) -> Vec<u8> {
+    let mut r = random.between(1, MAX_CARDS.into()) as u32;
+    let mut k = random.between(1, MAX_COUNTERS.into()) as u32;
+    let steps = match random.below(8) {
+        0 => MAX_STEPS as u64,
+        1 => random.below(4),
+        _ => random.below(MAX_STEPS as u64),
+    };
+    let mut bytes = Vec::new();
+    for _ in 0..steps {
+        bytes.extend(step(random, r, k).to_bytes());
+    }
+    match random.below(16) {
+        0 => r = random.pick(&[0, MAX_CARDS + 1, 16, u32::MAX]),
+        1 => k = random.pick(&[0, MAX_COUNTERS + 1, 64, u32::MAX]),
+        2 => bytes.push(0),
+        3 => bytes.truncate(random.below(bytes.len() as u64 + 1) as usize),
+        4 => bytes.resize(LONGEST_INPUT - 8 + random.pick(&[0, 1, 12, 5000]), 0),
+        _ => {}
+    }
+    let mut input = Vec::new();
+    input.extend(r.to_be_bytes());
+    input.extend(k.to_be_bytes());
+    input.extend(bytes);
+    if random.percent(3) {
+        input.truncate(random.below(9) as usize);
+    }
+    input
+}
+
+fn step(random: &mut Random, r: u32, k: u32) -> Step {
+    let odd = u64::from(random.percent(4));
+    let card = random.below(u64::from(r) + odd) as u32;
+    match random.below(8 + odd) {
+        0..=2 => Step::count(card, random.below(u64::from(k) + odd) as u32),
+        3 => Step::clear(card, random.below(u64::from(k) + odd) as u32),
+        8 => Step { kind: random.word() as u32, first: card, second: 0 },
+        _ => Step::deliver(card, random.below(r.into()) as u32),
+    }
+}

@@ -1,0 +1,139 @@
+//! Chains of random calls on one replica, good and damaged.
+
+use super::{generate, number, reading, sent, taken, Guarded, Tally};
+use crate::message::LONGEST;
+use crate::random::Random;
+use crate::{library, replica};
+
+const CALLS: u64 = 6;
+
+/// Numbers that each call can give.
+pub const OPEN: &[u64] = &[0, 1];
+pub const READ: &[u64] = &[0, 1, 2, 3];
+pub const SEND: &[u64] = &[0, 1, 2, 3, 4, 5];
+pub const TAKE: &[u64] = &[0, 1, 2, 3, 6, 7, 8, 9, 10];
+
+/// `cases` replicas, a few calls on each.
+pub fn random_calls(seed: u64, cases: u64) -> Tally {
+    let mut tally = Tally::default();
+    for case in 0..cases {
+        let mut random = Random::case(seed, case);
+        let mut words = generate::replica(&mut random);
+        if random.percent(25) {
+            generate::damage_replica(&mut random, &mut words);
+        }
+        let mut pair =
+            Pair { seed, case, ours: Guarded::new(&words), theirs: Guarded::new(&words) };
+        for _ in 0..CALLS {
+            pair.call(&mut random, &mut tally);
+            if random.percent(4) {
+                let mut words = pair.ours.get().to_vec();
+                generate::damage_replica(&mut random, &mut words);
+                pair.ours = Guarded::new(&words);
+                pair.theirs = Guarded::new(&words);
+            }
+        }
+    }
+    tally
+}
+
+/// Count or clear of the reference.
+type Send = fn(&mut [u64], u64, &mut [u8]) -> Result<replica::Sent, u64>;
+
+/// One replica twice: the reference's and the library's.
+struct Pair {
+    seed: u64,
+    case: u64,
+    ours: Guarded<u64>,
+    theirs: Guarded<u64>,
+}
+
+impl Pair {
+    fn call(&mut self, random: &mut Random, tally: &mut Tally) {
+        let before = self.ours.clone();
+        let (call, number) = match random.below(20) {
+            0 => self.open(random),
+            1..=3 => self.read(random),
+            4..=7 => self.send(random, "count", replica::count, library::count),
+            8..=11 => self.send(random, "clear", replica::clear, library::clear),
+            _ => self.take(random),
+        };
+        let (seed, case) = (self.seed, self.case);
+        assert_eq!(self.ours, self.theirs, "words after {call}, {number}: seed {seed} case {case}");
+        if number != 0 || call == "read" {
+            assert_eq!(
+                before, self.theirs,
+                "{call} changed words, {number}: seed {seed} case {case}"
+            );
+        }
+        tally.note(call, number);
+    }
+
+    fn agree<T: PartialEq + std::fmt::Debug>(&self, call: &str, ours: T, theirs: T) {
+        assert_eq!(ours, theirs, "{call}: seed {} case {}", self.seed, self.case);
+    }
+
+    fn open(&mut self, random: &mut Random) -> (&'static str, u64) {
+        let word = |at: usize| self.ours.get().get(at).copied().unwrap_or(0);
+        let mut shape = [word(0), word(1), word(2)];
+        if random.percent(40) {
+            shape[random.below(3) as usize] = random.pick(&generate::EDGES);
+        }
+        let [cards, counters, own] = shape;
+        let ours = number(replica::open(self.ours.get_mut(), cards, counters, own));
+        let theirs = library::open(self.theirs.get_mut(), cards, counters, own);
+        self.agree("open", ours, theirs);
+        ("open", theirs)
+    }
+
+    fn read(&mut self, random: &mut Random) -> (&'static str, u64) {
+        let counter = generate::counter(random, self.ours.get());
+        let ours = reading(replica::read(self.ours.get(), counter));
+        let theirs = library::read(self.theirs.get(), counter);
+        self.agree("read", ours, theirs);
+        ("read", theirs.number)
+    }
+
+    fn send(
+        &mut self,
+        random: &mut Random,
+        name: &'static str,
+        reference: Send,
+        library: fn(&mut [u64], u64, &mut [u8]) -> library::Sent,
+    ) -> (&'static str, u64) {
+        let counter = generate::counter(random, self.ours.get());
+        let room = self.room(random, counter, reference);
+        let content = random.bytes(room);
+        let (mut our_out, mut their_out) = (Guarded::new(&content), Guarded::new(&content));
+        let ours = sent(reference(self.ours.get_mut(), counter, our_out.get_mut()));
+        let theirs = library(self.theirs.get_mut(), counter, their_out.get_mut());
+        self.agree(name, ours, theirs);
+        self.agree(name, &our_out, &their_out);
+        let length = theirs.length as usize;
+        self.agree("bytes past the message", &content[length..], &their_out.get()[length..]);
+        (name, theirs.number)
+    }
+
+    /// Output bytes: too few by one, exactly enough, or any number.
+    fn room(&self, random: &mut Random, counter: u64, call: Send) -> usize {
+        if random.percent(40) {
+            let mut words = self.ours.get().to_vec();
+            let needed = call(&mut words, counter, &mut [0; LONGEST]);
+            let needed = needed.map_or(0, |sent| sent.length as usize);
+            return random.pick(&[needed, needed, needed.saturating_sub(1), needed + 1, 0]);
+        }
+        random.below(LONGEST as u64 + 60) as usize
+    }
+
+    fn take(&mut self, random: &mut Random) -> (&'static str, u64) {
+        let mut bytes = generate::draft(random, self.ours.get()).bytes();
+        if random.percent(12) {
+            generate::damage_bytes(random, &mut bytes);
+        }
+        let kept = Guarded::new(&bytes);
+        let ours = taken(replica::take(self.ours.get_mut(), &bytes));
+        let theirs = library::take(self.theirs.get_mut(), kept.get());
+        self.agree("take", ours, theirs);
+        ("take", theirs.number)
+    }
+}

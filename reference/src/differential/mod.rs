@@ -1,0 +1,107 @@
+//! The library held against the reference and the ledger: every number, word and byte, those
+//! around the buffers included. A difference panics with the seed and the case.
+
+pub mod calls;
+pub mod generate;
+pub mod logs;
+pub mod runs;
+
+use std::collections::BTreeMap;
+use std::fmt;
+
+use crate::{library, replica};
+
+/// How often each call gave each number.
+#[derive(Clone, Debug, Default)]
+pub struct Tally {
+    met: BTreeMap<(&'static str, u64), u64>,
+}
+
+impl Tally {
+    pub fn note(&mut self, call: &'static str, number: u64) {
+        *self.met.entry((call, number)).or_default() += 1;
+    }
+
+    /// Panics unless `call` gave each of `numbers` at least once, and nothing else.
+    pub fn require(&self, call: &'static str, numbers: &[u64]) {
+        for number in numbers {
+            assert!(self.met.contains_key(&(call, *number)), "{call} never gave {number}");
+        }
+        let stray = self.met.keys().find(|(of, number)| *of == call && !numbers.contains(number));
+        assert!(stray.is_none(), "unexpected: {stray:?}");
+    }
+}
+
+impl fmt::Display for Tally {
+    fn fmt(&self, f: &mut fmt::Formatter) -> fmt::Result {
+        let mut last = "";
+        for ((call, number), times) in &self.met {
+            if *call != last {
+                write!(f, "{}{call:10}", if last.is_empty() { "" } else { "\n" })?;
+                last = call;
+            }
+            write!(f, "  {number}: {times}")?;
+        }
+        Ok(())
+    }
+}
+
+const GUARD: usize = 9;
+
+/// A buffer with marked elements before and after it.
+#[derive(Clone, Debug, PartialEq, Eq)]
+pub struct Guarded<T> {
+    all: Vec<T>,
+}
+
+impl<T: Copy + From<u8>> Guarded<T> {
+    pub fn new(content: &[T]) -> Guarded<T> {
+        let mut all = Vec::with_capacity(content.len() + 2 * GUARD);
+        all.extend((0..GUARD as u8).map(|mark| T::from(0xa0 + mark)));
+        all.extend_from_slice(content);
+        all.extend((0..GUARD as u8).map(|mark| T::from(0xb0 + mark)));
+        Guarded { all }
+    }
+
+    pub fn get(&self) -> &[T] {
+        &self.all[GUARD..self.all.len() - GUARD]
+    }
+
+    pub fn get_mut(&mut self) -> &mut [T] {
+        let end = self.all.len() - GUARD;
+        &mut self.all[GUARD..end]
+    }
+}
+
+/// The reference's answer to read in the library's shape.
+pub fn reading(answer: Result<replica::Reading, u64>) -> library::Reading {
+    match answer {
+        Ok(read) => library::Reading {
+            number: 0,
+            value: read.value,
+            holders: read.holders,
+            holder_count: read.holder_count,
+        },
+        Err(number) => library::Reading { number, ..Default::default() },
+    }
+}
+
+/// The reference's answer to count and clear in the library's shape.
+pub fn sent(answer: Result<replica::Sent, u64>) -> library::Sent {
+    match answer {
+        Ok(sent) => library::Sent { number: 0, sequence: sent.sequence, length: sent.length },
+        Err(number) => library::Sent { number, ..Default::default() },
+    }
+}
+
+/// The reference's answer to take in the library's shape.
+pub fn taken(answer: Result<u64, u64>) -> library::Taken {
+    match answer {
+        Ok(sequence) => library::Taken { number: 0, sequence },
+        Err(number) => library::Taken { number, sequence: 0 },
+    }
+}
+
+pub fn number(answer: Result<(), u64>) -> u64 {
+    answer.err().unwrap_or(0)
+}

@@ -1,0 +1,393 @@
+//! Runs: random lists and sizes, and every list of a small chassis to a depth, against the
+//! reference and against the ledger of every counter.
+
+use super::{generate, number, Guarded, Tally};
+use crate::chassis::{self, Buffers, Step, DELIVER, STEP_BYTES};
+use crate::ledger::Ledger;
+use crate::library;
+use crate::random::Random;
+use crate::replica::words_of;
+
+pub const RUN: &[u64] = &[0, 11];
+/// 4 needs 2^48 - 1 messages of one card first.
+pub const STEP: &[u64] = &[0, 3, 7, 12, 13, 14];
+
+/// Says where a difference was met.
+type Place<'a> = &'a dyn Fn() -> String;
+
+/// Everything that a run is given.
+#[derive(Clone, Debug)]
+struct Lent {
+    cards: u64,
+    counters: u64,
+    log_bytes: u64,
+    steps: Vec<u8>,
+    words: Guarded<u64>,
+    logs: Guarded<u8>,
+    answers: Guarded<u64>,
+}
+
+impl Lent {
+    fn reference(&mut self) -> u64 {
+        let lent = Buffers {
+            words: self.words.get_mut(),
+            logs: self.logs.get_mut(),
+            answers: self.answers.get_mut(),
+        };
+        number(chassis::run(self.cards, self.counters, self.log_bytes, &self.steps, lent))
+    }
+
+    fn reference_records(&mut self) -> u64 {
+        let lent = Buffers {
+            words: self.words.get_mut(),
+            logs: self.logs.get_mut(),
+            answers: self.answers.get_mut(),
+        };
+        let steps = steps_of(&self.steps);
+        number(chassis::run_records(self.cards, self.counters, self.log_bytes, &steps, lent))
+    }
+
+    fn library(&mut self) -> u64 {
+        library::run(
+            self.cards,
+            self.counters,
+            self.log_bytes,
+            &self.steps,
+            self.words.get_mut(),
+            self.logs.get_mut(),
+            self.answers.get_mut(),
+        )
+    }
+
+    fn same_buffers(&self, other: &Lent) -> bool {
+        self.words == other.words && self.logs == other.logs && self.answers == other.answers
+    }
+}
+
+fn steps_of(bytes: &[u8]) -> Vec<Step> {
+    bytes.as_chunks::<STEP_BYTES>().0.iter().map(Step::from_bytes).collect()
+}
+
+/// `cases` runs; the tally has the run's numbers and the steps' answers.
+pub fn random_runs(seed: u64, cases: u64, longest: u64) -> Tally {
+    let mut tally = Tally::default();
+    for case in 0..cases {
+        let mut random = Random::case(seed, case);
+        let mut lent = right_sizes(&mut random, longest);
+        if random.percent(15) {
+            wrong_sizes(&mut random, &mut lent);
+        }
+        compare(&lent, &|| format!("seed {seed} case {case}"), &mut tally);
+    }
+    tally
+}
+
+fn compare(lent: &Lent, place: Place, tally: &mut Tally) {
+    let (mut ours, mut theirs) = (lent.clone(), lent.clone());
+    let (our_number, their_number) = (ours.reference(), theirs.library());
+    assert_eq!(our_number, their_number, "run: {}", place());
+    assert!(ours.same_buffers(&theirs), "run, {their_number}: {}\n{ours:?}\n{theirs:?}", place());
+    tally.note("run", their_number);
+    if lent.steps.len().is_multiple_of(STEP_BYTES) {
+        let mut records = lent.clone();
+        assert_eq!(records.reference_records(), their_number, "run of records: {}", place());
+        assert!(records.same_buffers(&theirs), "run of records: {}", place());
+        tally.note("records", their_number);
+    }
+    if their_number != 0 {
+        assert!(theirs.same_buffers(lent), "a refused run wrote: {}", place());
+        return;
+    }
+    for answer in theirs.answers.get() {
+        tally.note("step", *answer);
+    }
+    let (cards, counters) = (lent.cards as usize, lent.counters as usize);
+    let steps = steps_of(&lent.steps);
+    let mut ledgers: Vec<Ledger> = (0..counters).map(|q| Ledger::new(cards, q)).collect();
+    for (step, answer) in steps.iter().zip(theirs.answers.get()) {
+        feed(&mut ledgers, *step, *answer, cards, place);
+    }
+    against_ledgers(&ledgers, theirs.words.get(), cards, counters, place);
+    waiting_in_logs(&theirs, &ledgers[0], place);
+}
+
+fn feed(ledgers: &mut [Ledger], step: Step, answer: u64, cards: usize, place: Place) {
+    let (first, second) = (step.first as usize, step.second as usize);
+    if step.kind == DELIVER && first < cards && second < cards && first != second {
+        let waits = ledgers[0].waits(first, second);
+        assert_eq!(answer == 0, waits, "{step:?} answered {answer}: {}", place());
+    }
+    for ledger in ledgers {
+        if let Err(trouble) = ledger.feed(step, answer == 0) {
+            panic!("{trouble}: {}", place());
+        }
+    }
+}
+
+fn against_ledgers(ledgers: &[Ledger], words: &[u64], cards: usize, counters: usize, place: Place) {
+    for (card, words) in words.chunks_exact(words_of(cards, counters)).enumerate() {
+        for (counter, ledger) in ledgers.iter().enumerate() {
+            let read = library::read(words, counter as u64);
+            let holders = ledger.holders(card);
+            let expected = library::Reading {
+                number: 0,
+                value: ledger.value(card),
+                holders,
+                holder_count: u64::from(holders.count_ones()),
+            };
+            assert_eq!(read, expected, "card {card} counter {counter}: {}", place());
+        }
+    }
+}
+
+/// On a run's own logs, the next message of every link is where `waiting` says, and take accepts
+/// it exactly when the ledger's link has something to hand over.
+fn waiting_in_logs(after: &Lent, ledger: &Ledger, place: Place) {
+    let (cards, counters) = (after.cards as usize, after.counters as usize);
+    let each = words_of(cards, counters);
+    let log_bytes = after.log_bytes as usize;
+    for receiver in 0..cards {
+        let words = &after.words.get()[receiver * each..][..each];
+        for sender in (0..cards).filter(|sender| *sender != receiver) {
+            let log = &after.logs.get()[sender * log_bytes..][..log_bytes];
+            let q = words[3 + cards + sender] + 1;
+            let ours = chassis::waiting(log, q);
+            let theirs = library::waiting(log, q);
+            let theirs = (theirs.start as usize, theirs.length as usize);
+            assert_eq!((ours.start, ours.len()), theirs, "{receiver} from {sender}: {}", place());
+            if ledger.waits(receiver, sender) {
+                let mut words = words.to_vec();
+                let taken = library::take(&mut words, &log[theirs.0..][..theirs.1]);
+                assert_eq!(
+                    (taken.number, taken.sequence),
+                    (0, q),
+                    "{receiver} from {sender}: {}",
+                    place()
+                );
+            }
+        }
+    }
+}
+
+fn right_sizes(random: &mut Random, longest: u64) -> Lent {
+    let (cards, counters) = match random.below(30) {
+        0 => generate::shape(random),
+        1..=10 => (2, 1),
+        11..=20 => (3, random.between(1, 2) as usize),
+        _ => (random.between(1, 5) as usize, random.between(1, 3) as usize),
+    };
+    let len = if random.percent(5) { random.below(3) } else { random.below(longest + 1) };
+    let steps: Vec<u8> = (0..len).flat_map(|_| step(random, cards, counters).to_bytes()).collect();
+    let log_bytes = match random.below(8) {
+        0 => random.below(40),
+        1 => 36 * random.below(6),
+        2 => random.below(400),
+        _ => 40 * longest + random.below(9),
+    };
+    let logs = log_content(random, cards, counters, log_bytes as usize);
+    Lent {
+        cards: cards as u64,
+        counters: counters as u64,
+        log_bytes,
+        words: Guarded::new(&random.words(cards * words_of(cards, counters))),
+        logs: Guarded::new(&logs),
+        answers: Guarded::new(&random.words(steps.len() / STEP_BYTES)),
+        steps,
+    }
+}
+
+/// Mostly in range; otherwise a number at an edge, or any.
+fn step(random: &mut Random, cards: usize, counters: usize) -> Step {
+    let mut step = generate::good_step(random, cards, counters);
+    if random.percent(6) {
+        let number = match random.below(4) {
+            0 => random.word() as u32,
+            1 => cards as u32,
+            2 => counters as u32,
+            _ => random.pick(&generate::EDGES) as u32,
+        };
+        match random.below(4) {
+            0 => step.kind = number,
+            1 => step.first = number,
+            2 => step.second = number,
+            _ => step.second = step.first,
+        }
+    }
+    step
+}
+
+/// Logs as lent: zeros, noise, or messages that read and that no card of this run has made.
+fn log_content(random: &mut Random, cards: usize, counters: usize, log_bytes: usize) -> Vec<u8> {
+    let len = cards * log_bytes;
+    match random.below(3) {
+        0 => vec![0; len],
+        1 => random.bytes(len),
+        _ => (0..cards).flat_map(|card| foreign_log(random, card, counters, log_bytes)).collect(),
+    }
+}
+
+fn foreign_log(random: &mut Random, card: usize, counters: usize, log_bytes: usize) -> Vec<u8> {
+    let mut log = Vec::new();
+    for sequence in 1.. {
+        if log.len() >= log_bytes {
+            break;
+        }
+        let draft = generate::Draft {
+            version: 1,
+            kind: if random.percent(90) { 1 } else { 2 },
+            sender: card as u32,
+            sequence,
+            counter: random.below(counters as u64) as u32,
+            p: sequence,
+            start: 1,
+            entries: Vec::new(),
+        };
+        log.extend(draft.bytes());
+    }
+    log.truncate(log_bytes);
+    log
+}
+
+/// One size made wrong, products that wrap included.
+fn wrong_sizes(random: &mut Random, lent: &mut Lent) {
+    let one_off = |random: &mut Random, len: usize| {
+        if len > 0 && random.percent(50) {
+            len - 1
+        } else {
+            len + 1
+        }
+    };
+    match random.below(9) {
+        0 => lent.cards = random.pick(&generate::EDGES),
+        1 => lent.counters = random.pick(&generate::EDGES),
+        2 => lent.log_bytes = random.pick(&generate::EDGES),
+        3 => {
+            let len = one_off(random, lent.words.get().len());
+            lent.words = Guarded::new(&random.words(len));
+        }
+        4 => {
+            let len = one_off(random, lent.logs.get().len());
+            lent.logs = Guarded::new(&random.bytes(len));
+        }
+        5 => {
+            let len = one_off(random, lent.answers.get().len());
+            lent.answers = Guarded::new(&random.words(len));
+        }
+        6 => {
+            let extra = random.between(1, 11) as usize;
+            lent.steps.extend(random.bytes(extra));
+        }
+        7 => {
+            // The log's r times L is 2^64 or more, its low 64 bits the length lent.
+            let shift = lent.cards.trailing_zeros().max(1);
+            lent.cards = 1 << shift.min(4);
+            lent.log_bytes = 1 << (64 - shift.min(4));
+            let words = lent.cards as usize * words_of(lent.cards as usize, lent.counters as usize);
+            lent.words = Guarded::new(&random.words(words));
+            lent.logs = Guarded::new(&[]);
+        }
+        _ => {
+            lent.words = Guarded::new(&[]);
+            lent.logs = Guarded::new(&[]);
+        }
+    }
+}
+
+/// Every list of in-range steps up to `depth`; gives how many lists were run.
+pub fn exhaustive(cards: usize, counters: usize, log_bytes: usize, depth: usize) -> u64 {
+    let mut search = Search {
+        cards,
+        counters,
+        log_bytes,
+        alphabet: alphabet(cards, counters),
+        steps: Vec::new(),
+        lists: 0,
+        foreign: foreign_logs(cards, counters, log_bytes),
+    };
+    let ledgers: Vec<Ledger> = (0..counters).map(|q| Ledger::new(cards, q)).collect();
+    search.visit(&ledgers, depth);
+    search.lists
+}
+
+fn alphabet(cards: usize, counters: usize) -> Vec<Step> {
+    let mut steps = Vec::new();
+    for card in 0..cards as u32 {
+        for counter in 0..counters as u32 {
+            steps.push(Step::count(card, counter));
+            steps.push(Step::clear(card, counter));
+        }
+        steps.extend((0..cards as u32).filter(|s| *s != card).map(|s| Step::deliver(card, s)));
+    }
+    steps
+}
+
+fn foreign_logs(cards: usize, counters: usize, log_bytes: usize) -> Vec<u8> {
+    let mut random = Random::new(1);
+    (0..cards).flat_map(|card| foreign_log(&mut random, card, counters, log_bytes)).collect()
+}
+
+struct Search {
+    cards: usize,
+    counters: usize,
+    log_bytes: usize,
+    alphabet: Vec<Step>,
+    steps: Vec<u8>,
+    lists: u64,
+    foreign: Vec<u8>,
+}
+
+impl Search {
+    fn visit(&mut self, ledgers: &[Ledger], depth: usize) {
+        let answers = self.run();
+        self.lists += 1;
+        let ledgers = self.follow(ledgers, &answers);
+        if depth == 0 {
+            return;
+        }
+        for at in 0..self.alphabet.len() {
+            self.steps.extend(self.alphabet[at].to_bytes());
+            self.visit(&ledgers, depth - 1);
+            self.steps.truncate(self.steps.len() - STEP_BYTES);
+        }
+    }
+
+    /// Both runs of the present list, compared; the answers and the words stay for the ledgers.
+    fn run(&mut self) -> (Vec<u64>, Vec<u64>) {
+        let (r, k, log) = (self.cards as u64, self.counters as u64, self.log_bytes as u64);
+        let each = words_of(self.cards, self.counters);
+        let len = self.steps.len() / STEP_BYTES;
+        let buffers = || (vec![7u64; self.cards * each], self.foreign.clone(), vec![7u64; len]);
+        let (mut words, mut logs, mut answers) = buffers();
+        let theirs = library::run(r, k, log, &self.steps, &mut words, &mut logs, &mut answers);
+        let (mut our_words, mut our_logs, mut our_answers) = buffers();
+        let lent =
+            Buffers { words: &mut our_words, logs: &mut our_logs, answers: &mut our_answers };
+        let ours = number(chassis::run(r, k, log, &self.steps, lent));
+        let same =
+            ours == theirs && our_words == words && our_logs == logs && our_answers == answers;
+        assert!(same, "run of {}", self.text());
+        (answers, words)
+    }
+
+    /// The ledgers after the last step, held against every read.
+    fn follow(&self, before: &[Ledger], run: &(Vec<u64>, Vec<u64>)) -> Vec<Ledger> {
+        let mut ledgers = before.to_vec();
+        let (answers, words) = run;
+        let place = || self.text();
+        if let (Some(step), Some(answer)) = (steps_of(&self.steps).last(), answers.last()) {
+            feed(&mut ledgers, *step, *answer, self.cards, &place);
+        }
+        against_ledgers(&ledgers, words, self.cards, self.counters, &place);
+        ledgers
+    }
+
+    fn text(&self) -> String {
+        format!(
+            "{:?}, r {} k {} L {}",
+            steps_of(&self.steps),
+            self.cards,
+            self.counters,
+            self.log_bytes
+        )
+    }
+}

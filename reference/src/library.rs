@@ -1,0 +1,154 @@
+//! Safe wrappers over the exports of `include/yelansub.h`.
+//!
+//! A slice goes over as pointer and length; an empty one as null and 0, which every export takes.
+//! Answers keep the shape of the C structs, number first.
+
+#[repr(C)]
+#[derive(Clone, Copy, Debug, Default, PartialEq, Eq)]
+pub struct Reading {
+    pub number: u64,
+    pub value: u64,
+    pub holders: u64,
+    pub holder_count: u64,
+}
+
+#[repr(C)]
+#[derive(Clone, Copy, Debug, Default, PartialEq, Eq)]
+pub struct Sent {
+    pub number: u64,
+    pub sequence: u64,
+    pub length: u64,
+}
+
+#[repr(C)]
+#[derive(Clone, Copy, Debug, Default, PartialEq, Eq)]
+pub struct Taken {
+    pub number: u64,
+    pub sequence: u64,
+}
+
+#[repr(C)]
+#[derive(Clone, Copy, Debug, Default, PartialEq, Eq)]
+pub struct Span {
+    pub start: u64,
+    pub length: u64,
+}
+
+mod raw {
+    use super::{Reading, Sent, Span, Taken};
+
+    extern "C" {
+        pub fn yelansub_open(
+            words: *mut u64,
+            words_len: usize,
+            cards: u64,
+            counters: u64,
+            own: u64,
+        ) -> u64;
+        pub fn yelansub_read(words: *const u64, words_len: usize, counter: u64) -> Reading;
+        pub fn yelansub_count(
+            words: *mut u64,
+            words_len: usize,
+            counter: u64,
+            out: *mut u8,
+            out_len: usize,
+        ) -> Sent;
+        pub fn yelansub_clear(
+            words: *mut u64,
+            words_len: usize,
+            counter: u64,
+            out: *mut u8,
+            out_len: usize,
+        ) -> Sent;
+        pub fn yelansub_take(
+            words: *mut u64,
+            words_len: usize,
+            message: *const u8,
+            message_len: usize,
+        ) -> Taken;
+        pub fn yelansub_waiting(log: *const u8, log_len: usize, q: u64) -> Span;
+        pub fn yelansub_run(
+            cards: u64,
+            counters: u64,
+            log_bytes: u64,
+            steps: *const u8,
+            steps_len: usize,
+            words: *mut u64,
+            words_len: usize,
+            logs: *mut u8,
+            logs_len: usize,
+            answers: *mut u64,
+            answers_len: usize,
+        ) -> u64;
+    }
+}
+
+fn lend<T>(slice: &[T]) -> *const T {
+    if slice.is_empty() {
+        core::ptr::null()
+    } else {
+        slice.as_ptr()
+    }
+}
+
+fn lend_mut<T>(slice: &mut [T]) -> *mut T {
+    if slice.is_empty() {
+        core::ptr::null_mut()
+    } else {
+        slice.as_mut_ptr()
+    }
+}
+
+// SAFETY of every block below: each pointer and length is that of one slice, which is valid for
+// the call; two slices of one call never overlap, at least one being borrowed mutably. The
+// exports keep no pointer.
+
+pub fn open(words: &mut [u64], cards: u64, counters: u64, own: u64) -> u64 {
+    unsafe { raw::yelansub_open(lend_mut(words), words.len(), cards, counters, own) }
+}
+
+pub fn read(words: &[u64], counter: u64) -> Reading {
+    unsafe { raw::yelansub_read(lend(words), words.len(), counter) }
+}
+
+pub fn count(words: &mut [u64], counter: u64, out: &mut [u8]) -> Sent {
+    unsafe { raw::yelansub_count(lend_mut(words), words.len(), counter, lend_mut(out), out.len()) }
+}
+
+pub fn clear(words: &mut [u64], counter: u64, out: &mut [u8]) -> Sent {
+    unsafe { raw::yelansub_clear(lend_mut(words), words.len(), counter, lend_mut(out), out.len()) }
+}
+
+pub fn take(words: &mut [u64], message: &[u8]) -> Taken {
+    unsafe { raw::yelansub_take(lend_mut(words), words.len(), lend(message), message.len()) }
+}
+
+pub fn waiting(log: &[u8], q: u64) -> Span {
+    unsafe { raw::yelansub_waiting(lend(log), log.len(), q) }
+}
+
+pub fn run(
+    cards: u64,
+    counters: u64,
+    log_bytes: u64,
+    steps: &[u8],
+    words: &mut [u64],
+    logs: &mut [u8],
+    answers: &mut [u64],
+) -> u64 {
+    unsafe {
+        raw::yelansub_run(
+            cards,
+            counters,
+            log_bytes,
+            lend(steps),
+            steps.len(),
+            lend_mut(words),
+            words.len(),
+            lend_mut(logs),
+            logs.len(),
+            lend_mut(answers),
+            answers.len(),
+        )
+    }
+}

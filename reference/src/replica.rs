@@ -1,0 +1,306 @@
+//! Document 01, 'Book' (here: replica) and 'Count, clear, take, read'.
+//!
+//! The words: r, k, own card; C[j]; N[j]; then, counter by counter, (p, n, c) for each card.
+
+use crate::limits::*;
+use crate::message::{self, Body, Entries, Entry, Message};
+
+const HEADER: usize = 3;
+
+/// Words of a replica, for r and k in range.
+pub const fn words_of(cards: usize, counters: usize) -> usize {
+    HEADER + 2 * cards + 3 * cards * counters
+}
+
+#[derive(Clone, Copy, Debug, Default, PartialEq, Eq)]
+pub struct Reading {
+    pub value: u64,
+    pub holders: u64,
+    pub holder_count: u64,
+}
+
+#[derive(Clone, Copy, Debug, Default, PartialEq, Eq)]
+pub struct Sent {
+    pub sequence: u64,
+    pub length: u64,
+}
+
+/// One card's entry of one counter: Algorithm 1's M[j]. Absent is (0, 0, 0).
+#[derive(Clone, Copy, Debug, PartialEq, Eq)]
+struct Cell {
+    p: u64,
+    n: u64,
+    c: u64,
+}
+
+impl Cell {
+    const ABSENT: Cell = Cell { p: 0, n: 0, c: 0 };
+
+    fn is_absent(self) -> bool {
+        self == Cell::ABSENT
+    }
+
+    fn well_formed(self) -> bool {
+        self.is_absent() || (1 <= self.p && self.p <= self.c && self.c <= MAX && self.n <= self.p)
+    }
+
+    fn max(self, other: Cell) -> Cell {
+        Cell { p: self.p.max(other.p), n: self.n.max(other.n), c: self.c.max(other.c) }
+    }
+}
+
+/// r, k and own card of words whose length fits them.
+#[derive(Clone, Copy)]
+struct Shape {
+    cards: usize,
+    counters: usize,
+    own: usize,
+}
+
+impl Shape {
+    fn new(words: usize, cards: u64, counters: u64, own: u64) -> Result<Shape, u64> {
+        let limits = (1..=MAX_CARDS as u64).contains(&cards)
+            && (1..=MAX_COUNTERS as u64).contains(&counters)
+            && own < cards;
+        if !limits || words != words_of(cards as usize, counters as usize) {
+            return Err(BAD_REPLICA);
+        }
+        Ok(Shape { cards: cards as usize, counters: counters as usize, own: own as usize })
+    }
+
+    fn of(words: &[u64]) -> Result<Shape, u64> {
+        match words {
+            [cards, counters, own, ..] => Shape::new(words.len(), *cards, *counters, *own),
+            _ => Err(BAD_REPLICA),
+        }
+    }
+
+    fn counter(self, counter: u64) -> Result<usize, u64> {
+        if counter < self.counters as u64 {
+            Ok(counter as usize)
+        } else {
+            Err(BAD_COUNTER)
+        }
+    }
+}
+
+/// One counter of a replica: C and N of every card, and the counter's row.
+struct Row<'a> {
+    own: usize,
+    increments: &'a [u64],
+    messages: &'a [u64],
+    cells: &'a [u64],
+}
+
+impl<'a> Row<'a> {
+    fn of(words: &'a [u64], shape: Shape, counter: usize) -> Row<'a> {
+        let r = shape.cards;
+        let (increments, rest) = words[HEADER..].split_at(r);
+        let (messages, rows) = rest.split_at(r);
+        Row { own: shape.own, increments, messages, cells: &rows[3 * r * counter..][..3 * r] }
+    }
+
+    fn cells(&self) -> impl Iterator<Item = Cell> + '_ {
+        self.cells.chunks_exact(3).map(|w| Cell { p: w[0], n: w[1], c: w[2] })
+    }
+
+    fn cell(&self, card: usize) -> Cell {
+        let w = &self.cells[3 * card..][..3];
+        Cell { p: w[0], n: w[1], c: w[2] }
+    }
+
+    fn check(self) -> Result<Row<'a>, u64> {
+        let counted = self.increments.iter().zip(self.messages).all(|(c, n)| c <= n && *n <= MAX);
+        let own = self.cell(self.own).c <= self.increments[self.own];
+        if counted && own && self.cells().all(Cell::well_formed) {
+            Ok(self)
+        } else {
+            Err(BAD_ROW)
+        }
+    }
+}
+
+/// Writes a fresh replica; only refused with 1.
+pub fn open(words: &mut [u64], cards: u64, counters: u64, own: u64) -> Result<(), u64> {
+    Shape::new(words.len(), cards, counters, own)?;
+    words.fill(0);
+    words[..HEADER].copy_from_slice(&[cards, counters, own]);
+    Ok(())
+}
+
+/// Value, holders and how many; refused with 1, 3, 2.
+pub fn read(words: &[u64], counter: u64) -> Result<Reading, u64> {
+    let shape = Shape::of(words)?;
+    let counter = shape.counter(counter)?;
+    let row = Row::of(words, shape, counter).check()?;
+    let mut reading = Reading::default();
+    for (card, cell) in row.cells().enumerate() {
+        if !cell.is_absent() {
+            reading.value += cell.p - cell.n;
+            reading.holders |= 1 << card;
+            reading.holder_count += 1;
+        }
+    }
+    Ok(reading)
+}
+
+/// Counts one on `counter`: the message to `out`, and applied; refused with 1, 3, 2, 4, 5.
+pub fn count(words: &mut [u64], counter: u64, out: &mut [u8]) -> Result<Sent, u64> {
+    send(words, counter, out, |row| {
+        let own = row.cell(row.own);
+        if own.is_absent() {
+            Body::Increment { p: row.increments[row.own] + 1, start: true }
+        } else {
+            Body::Increment { p: own.p + 1, start: false }
+        }
+    })
+}
+
+/// Clears `counter`: every present entry to `out`, and applied; refused with 1, 3, 2, 4, 5.
+pub fn clear(words: &mut [u64], counter: u64, out: &mut [u8]) -> Result<Sent, u64> {
+    send(words, counter, out, |row| {
+        let mut entries = Entries::new();
+        for (card, cell) in row.cells().enumerate() {
+            if !cell.is_absent() {
+                entries.push(Entry { card: card as u32, p: cell.p, c: cell.c });
+            }
+        }
+        Body::Clear(entries)
+    })
+}
+
+fn send(
+    words: &mut [u64],
+    counter: u64,
+    out: &mut [u8],
+    body: impl FnOnce(&Row) -> Body,
+) -> Result<Sent, u64> {
+    let shape = Shape::of(words)?;
+    let counter = shape.counter(counter)?;
+    let row = Row::of(words, shape, counter).check()?;
+    let made = row.messages[shape.own];
+    if made == MAX {
+        return Err(EXHAUSTED);
+    }
+    let message = Message {
+        sender: shape.own as u32,
+        sequence: made + 1,
+        counter: counter as u32,
+        body: body(&row),
+    };
+    let length = message::write(&message, out)?;
+    apply(words, shape, &message);
+    Ok(Sent { sequence: message.sequence, length: length as u64 })
+}
+
+/// Takes another card's next message and gives its sequence; refused with 1, 6, 3, 2, 7, 8, 9, 10.
+pub fn take(words: &mut [u64], bytes: &[u8]) -> Result<u64, u64> {
+    let shape = Shape::of(words)?;
+    let message = message::read(bytes).ok_or(UNREADABLE)?;
+    take_read(words, shape, &message)
+}
+
+/// Takes a message already read.
+pub fn take_message(words: &mut [u64], message: &Message) -> Result<u64, u64> {
+    let shape = Shape::of(words)?;
+    take_read(words, shape, message)
+}
+
+fn take_read(words: &mut [u64], shape: Shape, message: &Message) -> Result<u64, u64> {
+    let counter = shape.counter(u64::from(message.counter))?;
+    let row = Row::of(words, shape, counter).check()?;
+    let sender = message.sender as usize;
+    if sender >= shape.cards || sender == shape.own || names_stranger(message, shape.cards) {
+        return Err(BAD_CARD);
+    }
+    let received = row.messages[sender];
+    if message.sequence <= received {
+        return Err(REPEATED);
+    }
+    if message.sequence > received + 1 {
+        return Err(EARLY);
+    }
+    if !plausible(message, &row) {
+        return Err(IMPLAUSIBLE);
+    }
+    apply(words, shape, message);
+    Ok(message.sequence)
+}
+
+fn names_stranger(message: &Message, cards: usize) -> bool {
+    match &message.body {
+        Body::Increment { .. } => false,
+        Body::Clear(entries) => entries.as_slice().iter().any(|e| e.card as usize >= cards),
+    }
+}
+
+fn plausible(message: &Message, row: &Row) -> bool {
+    let sender = message.sender as usize;
+    match &message.body {
+        Body::Increment { p, start } => {
+            let next = row.increments[sender] + 1;
+            if *start {
+                *p == next
+            } else {
+                1 < *p && *p <= next
+            }
+        }
+        Body::Clear(entries) => entries.as_slice().iter().all(|e| {
+            let card = e.card as usize;
+            (card != row.own && card != sender) || e.c <= row.increments[card]
+        }),
+    }
+}
+
+/// The effect of a message of `message.sender` on a replica that accepts it.
+fn apply(words: &mut [u64], shape: Shape, message: &Message) {
+    let r = shape.cards;
+    let sender = message.sender as usize;
+    let (increments, rest) = words[HEADER..].split_at_mut(r);
+    let (messages, rows) = rest.split_at_mut(r);
+    let cells = &mut rows[3 * r * message.counter as usize..][..3 * r];
+    match &message.body {
+        Body::Increment { p, start } => {
+            let c = increments[sender] + 1;
+            update(cells, sender, |cell| incremented(cell, *p, *start, c));
+            increments[sender] = c;
+        }
+        Body::Clear(entries) => {
+            for e in entries.as_slice() {
+                let card = e.card as usize;
+                update(cells, card, |cell| cleared(cell, e.p, e.c, increments[card]));
+            }
+        }
+    }
+    messages[sender] += 1;
+}
+
+fn update(cells: &mut [u64], card: usize, next: impl FnOnce(Cell) -> Cell) {
+    let place = &mut cells[3 * card..][..3];
+    let cell = next(Cell { p: place[0], n: place[1], c: place[2] });
+    place.copy_from_slice(&[cell.p, cell.n, cell.c]);
+}
+
+/// "Increment from j": Algorithm 1, lines 17 to 25.
+fn incremented(cell: Cell, p: u64, start: bool, c: u64) -> Cell {
+    let n = if start || cell.is_absent() { p - 1 } else { 0 };
+    let next = cell.max(Cell { p, n, c });
+    if next.p == next.n && next.c == c {
+        Cell::ABSENT
+    } else {
+        next
+    }
+}
+
+/// "Clear taken, for each (j, p, c)": Algorithm 1, lines 30 to 38.
+fn cleared(cell: Cell, p: u64, c: u64, received: u64) -> Cell {
+    if cell.is_absent() {
+        return if c > received { Cell { p, n: p, c } } else { Cell::ABSENT };
+    }
+    let next = cell.max(Cell { p, n: p, c });
+    if next.p == next.n && next.c <= received {
+        Cell::ABSENT
+    } else {
+        next
+    }
+}

@@ -1,0 +1,74 @@
+//! The library against the reference and the ledger, a fixed number of cases from printed seeds.
+//! YELANSUB_SEED sets another seed; `cargo run --release --bin soak` goes on for as long as asked.
+
+use yelansub_reference::differential::{calls, logs, runs};
+
+fn seed() -> u64 {
+    let given = std::env::var("YELANSUB_SEED").ok();
+    given.map_or(20_260_101, |seed| seed.parse().expect("YELANSUB_SEED is a number"))
+}
+
+#[test]
+fn random_calls_give_the_same_answers_words_and_bytes() {
+    let (seed, cases) = (seed(), 400_000);
+    let tally = calls::random_calls(seed, cases);
+    println!("{cases} replicas from seed {seed}\n{tally}");
+    tally.require("open", calls::OPEN);
+    tally.require("read", calls::READ);
+    tally.require("count", calls::SEND);
+    tally.require("clear", calls::SEND);
+    tally.require("take", calls::TAKE);
+}
+
+#[test]
+fn random_runs_agree_with_the_reference_and_the_ledger() {
+    let (seed, cases) = (seed(), 60_000);
+    let tally = runs::random_runs(seed, cases, 60);
+    println!("{cases} runs from seed {seed}\n{tally}");
+    tally.require("run", runs::RUN);
+    tally.require("records", runs::RUN);
+    tally.require("step", runs::STEP);
+}
+
+#[test]
+fn longer_random_runs_agree() {
+    let (seed, cases) = (seed() + 1, 300);
+    let tally = runs::random_runs(seed, cases, 1_000);
+    println!("{cases} longer runs from seed {seed}\n{tally}");
+}
+
+#[test]
+fn waiting_agrees_on_good_and_damaged_logs() {
+    let (seed, cases) = (seed(), 60_000);
+    let tally = logs::random_logs(seed, cases);
+    println!("{cases} logs from seed {seed}\n{tally}");
+    tally.require("waiting", logs::WAITING);
+}
+
+#[test]
+fn every_list_of_two_cards_and_one_counter_to_depth_7() {
+    let lists = runs::exhaustive(2, 1, 400, 7);
+    assert_eq!(lists, (0..=7).map(|depth| 6u64.pow(depth)).sum());
+    println!("r 2, k 1: {lists} lists");
+}
+
+#[test]
+fn every_list_of_two_cards_with_little_log_to_depth_6() {
+    let lists = runs::exhaustive(2, 1, 100, 6);
+    assert_eq!(lists, (0..=6).map(|depth| 6u64.pow(depth)).sum());
+    println!("r 2, k 1, 100 log bytes: {lists} lists");
+}
+
+#[test]
+fn every_list_of_two_cards_and_two_counters_to_depth_5() {
+    let lists = runs::exhaustive(2, 2, 300, 5);
+    assert_eq!(lists, (0..=5).map(|depth| 10u64.pow(depth)).sum());
+    println!("r 2, k 2: {lists} lists");
+}
+
+#[test]
+fn every_list_of_three_cards_to_depth_5() {
+    let lists = runs::exhaustive(3, 1, 300, 5);
+    assert_eq!(lists, (0..=5).map(|depth| 12u64.pow(depth)).sum());
+    println!("r 3, k 1: {lists} lists");
+}

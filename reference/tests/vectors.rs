@@ -1,0 +1,185 @@
+//! The library and the reference against bytes made by rpcgen and libtirpc from
+//! `include/message.x` (`vectors/regenerate.sh` makes them again).
+
+use yelansub_reference::library;
+use yelansub_reference::limits::{MAX, MAX_CARDS, MAX_COUNTERS};
+use yelansub_reference::message::{self, Body, Entries, Entry, Message, LONGEST};
+use yelansub_reference::replica::{self, words_of};
+
+const VECTORS: &str = include_str!("../vectors/messages.txt");
+
+struct Vector {
+    message: Message,
+    bytes: Vec<u8>,
+}
+
+fn vectors() -> Vec<Vector> {
+    let list: Vec<Vector> = VECTORS.lines().map(vector).collect();
+    assert!(list.len() > 200, "the file of vectors is short");
+    list
+}
+
+fn vector(line: &str) -> Vector {
+    let mut fields = line.split(' ').collect::<Vec<_>>();
+    let bytes = unhex(fields.pop().expect("bytes last"));
+    let kind = fields.remove(0);
+    let numbers: Vec<u64> = fields.iter().map(|f| f.parse().expect("a number")).collect();
+    let body = match kind {
+        "increment" => Body::Increment { p: numbers[3], start: numbers[4] == 1 },
+        "clear" => {
+            let mut entries = Entries::new();
+            for e in numbers[4..].chunks_exact(3) {
+                entries.push(Entry { card: e[0] as u32, p: e[1], c: e[2] });
+            }
+            assert_eq!(entries.as_slice().len() as u64, numbers[3]);
+            Body::Clear(entries)
+        }
+        other => panic!("{other}"),
+    };
+    let message = Message {
+        sender: numbers[0] as u32,
+        sequence: numbers[1],
+        counter: numbers[2] as u32,
+        body,
+    };
+    Vector { message, bytes }
+}
+
+fn unhex(text: &str) -> Vec<u8> {
+    let digits = text.as_bytes().chunks_exact(2);
+    digits.map(|d| u8::from_str_radix(std::str::from_utf8(d).unwrap(), 16).unwrap()).collect()
+}
+
+struct Words(Vec<u64>);
+
+impl Words {
+    /// C = N = MAX for every card but `sender`, which has made or sent one message less than
+    /// `message.sequence`.
+    fn before(message: &Message, own: usize) -> Words {
+        let mut words = vec![0; words_of(MAX_CARDS, MAX_COUNTERS)];
+        replica::open(&mut words, MAX_CARDS as u64, MAX_COUNTERS as u64, own as u64).unwrap();
+        words[3..3 + 2 * MAX_CARDS].fill(MAX);
+        let sender = message.sender as usize;
+        words[3 + MAX_CARDS + sender] = message.sequence - 1;
+        words[3 + sender] = match message.body {
+            Body::Increment { p, start: true } => p - 1,
+            _ => message.sequence - 1,
+        };
+        Words(words)
+    }
+
+    fn set(&mut self, counter: u32, card: u32, entry: [u64; 3]) {
+        let at = 3 + 2 * MAX_CARDS + 3 * (MAX_CARDS * counter as usize + card as usize);
+        self.0[at..at + 3].copy_from_slice(&entry);
+    }
+}
+
+/// A replica whose next count or clear makes the vector's message.
+fn maker(message: &Message) -> Vec<u64> {
+    let mut words = Words::before(message, message.sender as usize);
+    match &message.body {
+        Body::Increment { start: true, .. } => {}
+        Body::Increment { p, start: false } => {
+            words.set(message.counter, message.sender, [p - 1, 0, message.sequence - 1]);
+        }
+        Body::Clear(entries) => {
+            for e in entries.as_slice() {
+                words.set(message.counter, e.card, [e.p, 0, e.c]);
+            }
+        }
+    }
+    words.0
+}
+
+/// A replica of another card whose next message from the sender is the vector's.
+fn taker(message: &Message) -> Vec<u64> {
+    Words::before(message, (message.sender as usize + 1) % MAX_CARDS).0
+}
+
+#[test]
+fn document_01_example_is_the_first_vector() {
+    let hex = "00000001 00000001 00000000 0000000000000001 00000000 0000000000000001 00000001";
+    assert_eq!(vectors()[0].bytes, unhex(&hex.replace(' ', "")));
+}
+
+#[test]
+fn vectors_cover_every_number_of_entries() {
+    let list = vectors();
+    for entries in 0..=MAX_CARDS {
+        assert!(list.iter().any(|v| v.bytes[7] == 2 && v.bytes.len() == 28 + 20 * entries));
+    }
+}
+
+#[test]
+fn reference_writes_and_reads_the_vectors() {
+    for Vector { message, bytes } in vectors() {
+        let mut out = [0; LONGEST];
+        assert_eq!(message::write(&message, &mut out), Ok(bytes.len()));
+        assert_eq!(out[..bytes.len()], bytes);
+        assert_eq!(message::read(&bytes), Some(message));
+    }
+}
+
+#[test]
+fn library_makes_the_vectors() {
+    for Vector { message, bytes } in vectors() {
+        let mut words = maker(&message);
+        let mut out = [0xee; LONGEST + 4];
+        let counter = u64::from(message.counter);
+        let sent = match message.body {
+            Body::Increment { .. } => library::count(&mut words, counter, &mut out),
+            Body::Clear(_) => library::clear(&mut words, counter, &mut out),
+        };
+        let expected =
+            library::Sent { number: 0, sequence: message.sequence, length: bytes.len() as u64 };
+        assert_eq!(sent, expected, "{message:?}");
+        assert_eq!(out[..bytes.len()], bytes, "{message:?}");
+        assert!(out[bytes.len()..].iter().all(|byte| *byte == 0xee), "{message:?}");
+    }
+}
+
+#[test]
+fn library_takes_the_vectors() {
+    for Vector { message, bytes } in vectors() {
+        let mut words = taker(&message);
+        let mut ours = words.clone();
+        let taken = library::take(&mut words, &bytes);
+        assert_eq!(taken, library::Taken { number: 0, sequence: message.sequence }, "{message:?}");
+        assert_eq!(replica::take(&mut ours, &bytes), Ok(message.sequence));
+        assert_eq!(words, ours, "{message:?}");
+    }
+}
+
+#[test]
+fn every_flipped_bit_and_every_other_length_of_the_vectors_agrees() {
+    let mut unreadable = 0;
+    for Vector { message, bytes } in vectors() {
+        let before = taker(&message);
+        let (mut ours, mut theirs) = (before.clone(), before.clone());
+        let mut agree = |bytes: &[u8]| {
+            let expected = replica::take(&mut ours, bytes);
+            let taken = library::take(&mut theirs, bytes);
+            let answer = if taken.number == 0 { Ok(taken.sequence) } else { Err(taken.number) };
+            assert_eq!(answer, expected, "{bytes:?}");
+            assert_eq!(ours, theirs, "{bytes:?}");
+            unreadable += u32::from(taken.number == 6);
+            if taken.number == 0 {
+                ours.copy_from_slice(&before);
+                theirs.copy_from_slice(&before);
+            }
+        };
+        let mut longer = bytes.clone();
+        longer.extend([0; 24]);
+        for len in 0..longer.len() {
+            agree(&longer[..len]);
+        }
+        let mut flipped = bytes.clone();
+        for bit in 0..8 * bytes.len() {
+            flipped[bit / 8] ^= 1 << (bit % 8);
+            agree(&flipped);
+            flipped[bit / 8] ^= 1 << (bit % 8);
+        }
+    }
+    println!("{unreadable} changed messages did not read");
+    assert!(unreadable > 10_000);
+}
