@@ -27,7 +27,7 @@ use Rattle.chassis_model.specs.Delivered.{turn, turn-stands, state-deliv
 
 -- ---- messages end in their log
 
-front-within : (log : List ℕ) → front-length log ≤ length log
+pub front-within : (log : List ℕ) → front-length log ≤ length log
 unfolding front-length
 front-within log =
     by-test (leb (called-length log) (length log) && reads (take (called-length log) log))

@@ -31,3 +31,5 @@ pub mod AnswerLaws
 pub mod Theorem
 pub mod Ends
 pub mod Places
+-- The waiting message by its place.
+pub mod Spans

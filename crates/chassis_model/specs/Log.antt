@@ -1,10 +1,11 @@
 -- DEFINITIONS. The messages at the front of a log, and the waiting message (document 01, "Chassis").
-use Prim.Native.Nat.{ℕ, zero, suc, _+_}
+use Prim.Native.Nat.{ℕ, zero, suc, _+_, _-_}
 use mathlib.Core.List.{List, []}
 use mathlib.Core.Bool.{cond}
-use lib.ListN.{take, drop}
+use lib.ListN.{length, take, drop}
 use lib.Dec.{eqb}
 use Rattle.wire.specs.Message.{front-length}
+pub use Rattle.chassis_model.specs.declared.Span.{Span}
 
 -- "It takes a log and a number q; if the log does not start with q messages that read, or q is 0, it gives an empty part"
 unfoldable pub waiting-part : ℕ → List ℕ → List ℕ
@@ -16,3 +17,13 @@ waiting-part (suc (suc q)) log = cond (eqb (front-length log) 0) [] (waiting-par
 unfoldable pub end-of : ℕ → List ℕ → ℕ
 end-of zero log = 0
 end-of (suc n) log = front-length log + end-of n (drop (front-length log) log)
+
+-- ---- the waiting message by its place, for a host that takes numbers and no part of a list
+
+-- n bytes from `start` on; where there are none, 0 and 0
+abbrev pub span-at : ℕ → ℕ → Span
+span-at start n = cond (eqb n 0) (record { start = 0; length = 0 }) (record { start = start; length = n })
+
+-- message number q stands right behind the q - 1 before it
+unfoldable pub waiting-span : ℕ → List ℕ → Span
+waiting-span q log = span-at (end-of (q - 1) log) (length (waiting-part q log))

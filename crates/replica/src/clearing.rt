@@ -1,8 +1,8 @@
 // The call that clears: it makes a clear of every present entry, writes it to the output and applies it to the own replica.
-use replica_model::Sent;
 use crate::effect;
 use crate::sending;
 use crate::words;
+use replica_model::Sent;
 use wire::Message;
 ghost use mathlib.Core.Path.{_≡_};
 ghost use Rattle.protocol.specs.Chassis.{clear-message};

@@ -1,9 +1,9 @@
 // The call that counts: it makes an increment, writes it to the output and applies it to the own replica.
-use replica_model::Sent;
 use crate::effect;
 use crate::sending;
 use crate::words;
 use protocol::Entry;
+use replica_model::Sent;
 ghost use mathlib.Core.Path.{_≡_};
 ghost use Prim.Native.Nat.{_≤_};
 ghost use Rattle.protocol.specs.Limits.{MAX};

@@ -1,6 +1,6 @@
 // What count and clear share: the checks before a message is made, in document 01's order 1, 3, 2, 4, and the answer of a call that declines.
-use replica_model::Sent;
 use crate::words;
+use replica_model::Sent;
 ghost use mathlib.Core.Path.{_≡_};
 ghost use Rattle.replica.specs.SendLaws.{no-sent, send-refusal};
 

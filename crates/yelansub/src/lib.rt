@@ -1,11 +1,14 @@
 // The calls for a host in C or Rust: each is the proved call under its exported name, with the call's own contract. See include/yelansub.h.
+use chassis_model::Span;
 use replica_model::Reading;
 use replica_model::Sent;
 use replica_model::Taken;
 ghost use mathlib.Core.Path.{_≡_};
 ghost use Rattle.replica_model.specs.Calls.{OpenOutcome, open-on, read-on, SendOutcome, count-on, clear-on, TakeOutcome, take-on};
+ghost use Rattle.chassis_model.specs.Log.{waiting-span};
+ghost use Rattle.chassis_model.specs.Run.{RunOutcome, run-bytes-on};
 
-// Ruled out: another own card written (must-fail/open_other_card), and a replica left as it was with number 0.
+// Ruled out: another own card written, and a replica left as it was with number 0.
 #[no_mangle]
 pub extern "C" fn yelansub_open(words: &mut [u64], cards: u64, counters: u64, own: u64) -> u64
     ensures { λ a. ⌜ _≡_ {A = OpenOutcome} (record { number = a; words = now (words .exit) }) (open-on (now (words .entry)) cards counters own) ⌝ }
@@ -21,7 +24,7 @@ pub extern "C" fn yelansub_read(words: &[u64], counter: u64) -> Reading
     replica::read::read(words, counter)
 }
 
-// Ruled out: a clear in place of a count (must-fail/count_clears), and a message that is not written.
+// Ruled out: a clear in place of a count, and a message that is not written.
 #[no_mangle]
 pub extern "C" fn yelansub_count(words: &mut [u64], counter: u64, out: &mut [u8]) -> Sent
     ensures { λ a. ⌜ _≡_ {A = SendOutcome} (record { answer = a; words = now (words .exit); out = now (out .exit) }) (count-on (now (words .entry)) counter (now (out .entry))) ⌝ }
@@ -43,4 +46,28 @@ pub extern "C" fn yelansub_take(words: &mut [u64], message: &[u8]) -> Taken
     ensures { λ a. ⌜ _≡_ {A = TakeOutcome} (record { answer = a; words = now (words .exit) }) (take-on (now (words .entry)) (now (message .entry))) ⌝ }
 {
     replica::take::take(words, message)
+}
+
+// Ruled out: every log's first message (must-fail/waiting_one_less), and a span of a message that does not read.
+#[no_mangle]
+pub extern "C" fn yelansub_waiting(log: &[u8], q: u64) -> Span
+    ensures { λ a. ⌜ a ≡ waiting-span q (now (log .entry)) ⌝ }
+{
+    chassis::log::waiting_span(log, q)
+}
+
+// Ruled out: cards and counters exchanged (must-fail/run_sizes_exchanged), and answers that are not written.
+#[no_mangle]
+pub extern "C" fn yelansub_run(
+    cards: u64,
+    counters: u64,
+    capacity: u64,
+    steps: &[u8],
+    words: &mut [u64],
+    logs: &mut [u8],
+    answers: &mut [u64],
+) -> u64
+    ensures { λ a. ⌜ _≡_ {A = RunOutcome} (record { number = a; words = now (words .exit); logs = now (logs .exit); answers = now (answers .exit) }) (run-bytes-on cards counters capacity (now (steps .entry)) (now (words .entry)) (now (logs .entry)) (now (answers .entry))) ⌝ }
+{
+    chassis::run::run(cards, counters, capacity, steps, words, logs, answers)
 }

@@ -1,0 +1,21 @@
+-- The line of what the read answers.
+use borrow.Author.Needs.{needs}
+use Rattle.listing.proofs.lines.put_counter.Statement.{statement}
+use Rattle.listing.proofs.lines.put_counter.Tie as tie
+
+read-requires : tie.Need-read-requires
+read-requires c κs = search needs
+
+put-line-requires : tie.Need-put-line-requires
+put-line-requires c κs = search needs
+
+same-length : tie.Need-same-length
+same-length c = search needs
+
+returns : tie.Need-returns
+returns c =
+    let written = c .before .before in
+    rw (written .before .before .read .ensures) at (written .put-line .ensures)
+
+pub put-counter-spec : {M : Type 1} → statement M
+put-counter-spec = tie.close (tie.spec read-requires put-line-requires same-length returns)

@@ -1,0 +1,5 @@
+pub mod Listing
+pub mod Text
+pub mod TextLaws
+pub mod ListingLaws
+pub mod Examples
