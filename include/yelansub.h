@@ -175,6 +175,20 @@ uint64_t yelansub_run(uint64_t cards, uint64_t counters, uint64_t log_bytes,
                       uint8_t *logs, size_t logs_len,
                       uint64_t *answers, size_t answers_len);
 
+struct yelansub_step {
+    uint32_t kind, first, second;
+};
+
+/*
+ * The same run of steps given as records; steps_len counts records. Refusals are
+ * those of yelansub_run.
+ */
+uint64_t yelansub_run_records(uint64_t cards, uint64_t counters, uint64_t log_bytes,
+                              const struct yelansub_step *steps, size_t steps_len,
+                              uint64_t *words, size_t words_len,
+                              uint8_t *logs, size_t logs_len,
+                              uint64_t *answers, size_t answers_len);
+
 #ifdef __cplusplus
 }
 #endif

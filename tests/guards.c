@@ -118,6 +118,8 @@ static void no_memory(void)
         HOLD(yelansub_run(1, 1, 0, p, 0, p, 0, p, 0, p, 0) == 11);
         HOLD(yelansub_run(2, 1, 0, p, 0, both, 2 * len, p, 0, p, 0) == 0);
         HOLD(yelansub_run(16, 1, UINT64_C(1) << 60, p, 0, p, 0, p, 0, p, 0) == 11);
+        HOLD(yelansub_run_records(1, 1, 0, p, 0, p, 0, p, 0, p, 0) == 11);
+        HOLD(yelansub_run_records(2, 1, 0, p, 0, both, 2 * len, p, 0, p, 0) == 0);
     }
     HOLD(unchanged(&page));
     drop(&page);
@@ -276,20 +278,23 @@ static void odd_bytes(int at_end)
     drop(&w);
 }
 
-/* Runs of odd steps in exact buffers, and each size one off. */
+/* Runs of odd steps in exact buffers, by bytes and by records, and each size one off. */
 static void runs(unsigned cards, unsigned counters, uint64_t log, size_t steps, int at_end)
 {
     size_t len = cards * YELANSUB_REPLICA_WORDS(cards, counters);
     struct area s = area(steps * YELANSUB_STEP_BYTES, at_end), w = area(len * sizeof(uint64_t), at_end);
     struct area l = area(cards * log, at_end), a = area(steps * sizeof(uint64_t), at_end);
+    struct area records = area(steps * sizeof(struct yelansub_step), at_end);
+    struct yelansub_step *record = in(&records);
     for (size_t i = 0; i < steps; i++) {
         uint8_t *step = (uint8_t *)in(&s) + i * YELANSUB_STEP_BYTES;
         memset(step, 0, YELANSUB_STEP_BYTES);
         step[3] = (uint8_t)(1 + any(3 + (any(9) == 0)));
         step[7] = (uint8_t)any(cards + (any(9) == 0));
         step[11] = (uint8_t)any((step[3] == 3 ? cards : counters) + (any(9) == 0));
+        record[i] = (struct yelansub_step){step[3], step[7], step[11]};
     }
-    struct area *all[] = {&s, &w, &l, &a};
+    struct area *all[] = {&s, &w, &l, &a, &records};
     for (size_t i = 0; i < sizeof all / sizeof *all; i++)
         keep(all[i]);
     doing = "refused run";
@@ -314,6 +319,15 @@ static void runs(unsigned cards, unsigned counters, uint64_t log, size_t steps, 
     uint64_t *answers = in(&a);
     for (size_t i = 0; i < steps; i++)
         HOLD(answers[i] == 0 || answers[i] == 3 || answers[i] == 7 || (answers[i] >= 12 && answers[i] <= 14));
+    doing = "run of records";
+    struct area kept[] = {area(w.len, at_end), area(l.len, at_end), area(a.len, at_end)};
+    HOLD(yelansub_run_records(cards, counters, log, record, steps, in(&kept[0]), len, in(&kept[1]),
+                              cards * log, in(&kept[2]), steps) == 0);
+    HOLD(unchanged(&records));
+    HOLD(memcmp(kept[0].pages, w.pages, w.size) == 0 && memcmp(kept[1].pages, l.pages, l.size) == 0);
+    HOLD(memcmp(kept[2].pages, a.pages, a.size) == 0);
+    for (int i = 0; i < 3; i++)
+        drop(&kept[i]);
     for (size_t i = 0; i < sizeof all / sizeof *all; i++)
         drop(all[i]);
 }

@@ -36,6 +36,7 @@ pub struct Span {
 
 mod raw {
     use super::{Reading, Sent, Span, Taken};
+    use crate::chassis::Step;
 
     extern "C" {
         pub fn yelansub_open(
@@ -72,6 +73,19 @@ mod raw {
             counters: u64,
             log_bytes: u64,
             steps: *const u8,
+            steps_len: usize,
+            words: *mut u64,
+            words_len: usize,
+            logs: *mut u8,
+            logs_len: usize,
+            answers: *mut u64,
+            answers_len: usize,
+        ) -> u64;
+        pub fn yelansub_run_records(
+            cards: u64,
+            counters: u64,
+            log_bytes: u64,
+            steps: *const Step,
             steps_len: usize,
             words: *mut u64,
             words_len: usize,
@@ -138,6 +152,32 @@ pub fn run(
 ) -> u64 {
     unsafe {
         raw::yelansub_run(
+            cards,
+            counters,
+            log_bytes,
+            lend(steps),
+            steps.len(),
+            lend_mut(words),
+            words.len(),
+            lend_mut(logs),
+            logs.len(),
+            lend_mut(answers),
+            answers.len(),
+        )
+    }
+}
+
+pub fn run_records(
+    cards: u64,
+    counters: u64,
+    log_bytes: u64,
+    steps: &[crate::chassis::Step],
+    words: &mut [u64],
+    logs: &mut [u8],
+    answers: &mut [u64],
+) -> u64 {
+    unsafe {
+        raw::yelansub_run_records(
             cards,
             counters,
             log_bytes,

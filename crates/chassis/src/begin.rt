@@ -20,7 +20,7 @@ fn is_product(x: u64, n: u64, y: u64) -> bool
 }
 
 // Number 11's test, over the lengths of what the caller lends: r, k and the capacity of a log are any words.
-pub(crate) fn sizes_are_right(
+pub fn sizes_are_right(
     r: u64,
     k: u64,
     capacity: u64,
@@ -49,7 +49,7 @@ fn fresh_card(words: &mut [u64], r: usize, k: usize, card: usize)
 }
 
 // Every replica fresh, whatever the words were.
-pub(crate) fn fresh_all(words: &mut [u64], r: usize, k: usize)
+pub fn fresh_all(words: &mut [u64], r: usize, k: usize)
     requires { ⌜ Sizes r k × (length (now words) ≡ r * replica-length r k) ⌝ }
     ensures { λ _. ⌜ now (words .exit) ≡ fresh-replicas r k r ⌝ }
 {

@@ -166,7 +166,7 @@ fn step(z: Sizes, s: Step, words: &mut [u64], logs: &mut [u8], places: &mut [u64
 }
 
 // Turn i of a run: its step, and the step's answer in its place. Returns the next turn's number.
-pub(crate) fn turn<'a>(
+pub fn turn<'a>(
     z: Sizes,
     s: Step,
     i: usize,

@@ -2,7 +2,7 @@
 --
 -- r cards, k counters, logs of L bytes, any list of steps, any words, log bytes and answers of the right sizes. `fresh-state r k L logs` is the state in which
 -- the run begins, `state-after` the one that a list of steps leaves, `ledger-of r q steps answers` counter q's ledger, fed the steps and which were accepted.
-use Prim.Native.Nat.{ℕ, _<_}
+use Prim.Native.Nat.{ℕ, _%_, _<_}
 use mathlib.Core.Path.{_≡_}
 use mathlib.Core.Bool.{true}
 use mathlib.Core.List.{List, _∷_, _++_, map}
@@ -11,7 +11,7 @@ use Rattle.protocol.specs.Runs.{AllAlike}
 use Rattle.replica_model.specs.Layout.{replica-length}
 use Rattle.replica_model.specs.Calls.{read-on}
 use Rattle.chassis_model.specs.Parts.{part}
-use Rattle.chassis_model.specs.Run.{Step, state-after, answers-of, sizes-right, run-on}
+use Rattle.chassis_model.specs.Run.{Step, state-after, answers-of, sizes-right, run-on, steps-of, run-bytes-on}
 use Rattle.chassis_model.specs.Ledger.{ledger-step, ledger-of, ledger-reading}
 use Rattle.chassis_model.specs.Answers.{fresh-state, due-answer, run-answer}
 use Rattle.chassis_model.specs.Theorem as theorem
@@ -49,3 +49,8 @@ pub isolation : (r k L L′ q : ℕ) (steps steps′ : List Step) (words words�
     → read-on (part (replica-length r k) (run-on r k L steps words logs answers .words) i) q
     ≡ read-on (part (replica-length r k) (run-on r k L′ steps′ words′ logs′ answers′ .words) i) q
 isolation = theorem.isolation
+
+-- BOTH FORMS OF STEPS. Steps lent as bytes, three unsigned ints each, and the same steps lent as records give the same run: its number, words, logs and answers.
+pub same-run : (r k L : ℕ) (bytes words logs answers : List ℕ) → length bytes % 12 ≡ 0
+    → run-bytes-on r k L bytes words logs answers ≡ run-on r k L (steps-of bytes) words logs answers
+same-run = theorem.same-run

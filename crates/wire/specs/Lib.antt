@@ -1,5 +1,6 @@
 pub mod Number
 pub mod Message
+pub mod Parts
 pub mod Ranges
 pub mod Lists
 pub mod NumberLaws
@@ -8,6 +9,7 @@ pub mod EntriesLaws
 pub mod Bounds
 pub mod WriteLaws
 pub mod MessageLaws
+pub mod PartsLaws
 pub mod RoundTrips
 pub mod Claims
 pub mod Examples

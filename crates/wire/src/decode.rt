@@ -1,29 +1,23 @@
 // Bytes to a message. The public calls are `read_message`, `front_length` and the inner door `called_length_of`.
 use crate::CLEAR;
-use crate::COUNTER_AT;
 use crate::ENTRIES_AT;
-use crate::ENTRY_C_AT;
 use crate::ENTRY_LENGTH;
-use crate::ENTRY_P_AT;
 use crate::INCREMENT;
 use crate::INCREMENT_LENGTH;
-use crate::KIND_AT;
 use crate::LEN_AT;
 use crate::Message;
 use crate::P_AT;
 use crate::Reading;
-use crate::SENDER_AT;
-use crate::SEQUENCE_AT;
-use crate::START_AT;
 use crate::VERSION;
-use crate::number;
 use crate::range;
+use crate::reader;
+use crate::reader::Header;
 use protocol::ClearEntry;
 ghost use mathlib.Core.Path.{_≡_};
 ghost use Prim.Native.Nat.{_+_, _*_, _≤_};
 ghost use lib.ListN.{length};
-ghost use Rattle.wire.specs.Number.{int-at};
-ghost use Rattle.wire.specs.Message.{entry-at, entries-at, called-length, read-message, front-length};
+ghost use Rattle.wire.specs.Message.{entries-at, called-length, read-message, front-length};
+ghost use Rattle.wire.specs.Parts.{header-at};
 ghost use Rattle.wire.specs.MessageLaws.{refused, clear-reading};
 
 const NO_ENTRY: ClearEntry = ClearEntry {
@@ -52,20 +46,19 @@ fn refuse() -> Reading
     }
 }
 
-fn read_increment(bytes: &[u8]) -> Reading
-    requires { ⌜ (int-at (now bytes) 0 ≡ 1) × (int-at (now bytes) 4 ≡ 1) ⌝ }
+fn read_increment(bytes: &[u8], header: Header) -> Reading
+    requires { ⌜ (header ≡ header-at (now bytes)) × (header .version ≡ 1) × (header .kind ≡ 1) ⌝ }
     ensures { λ r. ⌜ r ≡ read-message (now (bytes .entry)) ⌝ }
 {
-    if bytes.len() != INCREMENT_LENGTH {
+    if header.left != INCREMENT_LENGTH - P_AT {
         return refuse();
     }
-    let sender = number::read_u32(bytes, SENDER_AT);
-    let sequence = number::read_u64(bytes, SEQUENCE_AT);
-    let counter = number::read_u32(bytes, COUNTER_AT);
-    let p = number::read_u64(bytes, P_AT);
-    let start = number::read_u32(bytes, START_AT);
+    let sender = header.sender;
+    let sequence = header.sequence;
+    let counter = header.counter;
+    let body = reader::increment_from(bytes, P_AT);
     if range::header_in_range(VERSION, sender, sequence, counter)
-        & range::body_in_range(INCREMENT, p, start, 0)
+        & range::body_in_range(INCREMENT, body.p, body.start, 0)
     {
         let message = Message {
             version: VERSION,
@@ -73,25 +66,14 @@ fn read_increment(bytes: &[u8]) -> Reading
             sender,
             sequence,
             counter,
-            p,
-            start,
+            p: body.p,
+            start: body.start,
             len: 0,
             entries: [NO_ENTRY; range::MOST_ENTRIES],
         };
         return Reading { number: 0, message };
     }
     refuse()
-}
-
-fn entry_from(bytes: &[u8], at: usize) -> ClearEntry
-    requires { ⌜ at + 20 ≤ length (now bytes) ⌝ }
-    ensures { λ r. ⌜ r ≡ entry-at (now (bytes .entry)) at ⌝ }
-{
-    ClearEntry {
-        card: number::read_u32(bytes, at),
-        p: number::read_u64(bytes, at + ENTRY_P_AT),
-        c: number::read_u64(bytes, at + ENTRY_C_AT),
-    }
 }
 
 // Reads and tests the entries in one pass, behind a header that is in range.
@@ -104,7 +86,7 @@ fn read_entries(bytes: &[u8], sender: u32, sequence: u64, counter: u32, count: u
     let mut fit = true;
     let mut i: usize = 0;
     while i < count {
-        let entry = entry_from(bytes, ENTRIES_AT + ENTRY_LENGTH * i);
+        let entry = reader::entry_from(bytes, ENTRIES_AT + ENTRY_LENGTH * i);
         fit = fit & range::entry_in_range(low, entry);
         low = range::next_card(entry);
         entries[i] = entry;
@@ -127,20 +109,20 @@ fn read_entries(bytes: &[u8], sender: u32, sequence: u64, counter: u32, count: u
     refuse()
 }
 
-fn read_clear(bytes: &[u8]) -> Reading
-    requires { ⌜ (int-at (now bytes) 0 ≡ 1) × (int-at (now bytes) 4 ≡ 2) × (28 ≤ length (now bytes)) ⌝ }
+fn read_clear(bytes: &[u8], header: Header) -> Reading
+    requires { ⌜ (header ≡ header-at (now bytes)) × (header .version ≡ 1) × (header .kind ≡ 2) × (28 ≤ length (now bytes)) ⌝ }
     ensures { λ r. ⌜ r ≡ read-message (now (bytes .entry)) ⌝ }
 {
-    let count = number::read_u32(bytes, LEN_AT) as usize;
+    let count = reader::len_from(bytes, LEN_AT) as usize;
     if range::MOST_ENTRIES < count {
         return refuse();
     }
-    if bytes.len() != ENTRIES_AT + ENTRY_LENGTH * count {
+    if header.left != ENTRIES_AT + ENTRY_LENGTH * count - LEN_AT {
         return refuse();
     }
-    let sender = number::read_u32(bytes, SENDER_AT);
-    let sequence = number::read_u64(bytes, SEQUENCE_AT);
-    let counter = number::read_u32(bytes, COUNTER_AT);
+    let sender = header.sender;
+    let sequence = header.sequence;
+    let counter = header.counter;
     if range::header_in_range(VERSION, sender, sequence, counter) {
         return read_entries(bytes, sender, sequence, counter, count);
     }
@@ -156,15 +138,15 @@ pub fn read_message(bytes: &[u8]) -> Reading
     if bytes.len() < ENTRIES_AT {
         return refuse();
     }
-    if number::read_u32(bytes, 0) != VERSION {
+    let header = reader::header_from(bytes);
+    if header.version != VERSION {
         return refuse();
     }
-    let kind = number::read_u32(bytes, KIND_AT);
-    if kind == INCREMENT {
-        return read_increment(bytes);
+    if header.kind == INCREMENT {
+        return read_increment(bytes, header);
     }
-    if kind == CLEAR {
-        return read_clear(bytes);
+    if header.kind == CLEAR {
+        return read_clear(bytes, header);
     }
     refuse()
 }
@@ -175,8 +157,9 @@ pub fn called_length_of(bytes: &[u8]) -> usize
     requires { ⌜ 28 ≤ length (now bytes) ⌝ }
     ensures { λ r. ⌜ r ≡ called-length (now (bytes .entry)) ⌝ }
 {
-    if number::read_u32(bytes, KIND_AT) == CLEAR {
-        let count = number::read_u32(bytes, LEN_AT) as usize;
+    let header = reader::header_from(bytes);
+    if header.kind == CLEAR {
+        let count = reader::len_from(bytes, LEN_AT) as usize;
         return ENTRIES_AT + ENTRY_LENGTH * count;
     }
     INCREMENT_LENGTH

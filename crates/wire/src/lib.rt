@@ -5,6 +5,7 @@ pub mod decode;
 pub mod encode;
 pub mod number;
 mod range;
+mod reader;
 
 pub const VERSION: u32 = 1;
 

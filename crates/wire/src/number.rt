@@ -26,7 +26,7 @@ fn read_number(s: &[u8], at: usize, width: usize) -> u64
     number
 }
 
-// Ruled out: the bytes in another order (must-fail/byte_order), and a byte of the next number taken in.
+// Ruled out: the bytes in another order, and a byte of the next number taken in.
 pub fn read_u32(s: &[u8], at: usize) -> u32
     requires { ⌜ at + 4 ≤ length (now s) ⌝ }
     ensures { λ r. ⌜ r ≡ number-at 4 (now (s .entry)) at ⌝ }
@@ -56,7 +56,7 @@ fn write_number(out: &mut [u8], at: usize, width: usize, x: u64)
     }
 }
 
-// Ruled out: the bytes in another order (must-fail/byte_order), and a byte past the four that changes.
+// Ruled out: the bytes in another order, and a byte past the four that changes.
 pub fn write_u32(out: &mut [u8], at: usize, x: u32)
     requires { ⌜ at + 4 ≤ length (now out) ⌝ }
     ensures { λ _. ⌜ now (out .exit) ≡ sets (now (out .entry)) at (bytes-of 4 x) ⌝ }

@@ -59,6 +59,18 @@ impl Lent {
         )
     }
 
+    fn library_records(&mut self) -> u64 {
+        library::run_records(
+            self.cards,
+            self.counters,
+            self.log_bytes,
+            &steps_of(&self.steps),
+            self.words.get_mut(),
+            self.logs.get_mut(),
+            self.answers.get_mut(),
+        )
+    }
+
     fn same_buffers(&self, other: &Lent) -> bool {
         self.words == other.words && self.logs == other.logs && self.answers == other.answers
     }
@@ -89,9 +101,11 @@ fn compare(lent: &Lent, place: Place, tally: &mut Tally) {
     assert!(ours.same_buffers(&theirs), "run, {their_number}: {}\n{ours:?}\n{theirs:?}", place());
     tally.note("run", their_number);
     if lent.steps.len().is_multiple_of(STEP_BYTES) {
-        let mut records = lent.clone();
-        assert_eq!(records.reference_records(), their_number, "run of records: {}", place());
-        assert!(records.same_buffers(&theirs), "run of records: {}", place());
+        for call in [Lent::reference_records, Lent::library_records] {
+            let mut records = lent.clone();
+            assert_eq!(call(&mut records), their_number, "run of records: {}", place());
+            assert!(records.same_buffers(&theirs), "run of records: {}", place());
+        }
         tally.note("records", their_number);
     }
     if their_number != 0 {

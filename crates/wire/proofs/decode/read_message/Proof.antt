@@ -3,6 +3,7 @@ use borrow.Author.Needs.{needs}
 use mathlib.Core.Path.{_∙_}
 use denote.Ref.{now}
 use Rattle.wire.specs.MessageLaws.{read-short, read-other-version, read-other-kind}
+use Rattle.wire.specs.PartsLaws.{header-read}
 use Rattle.wire.proofs.decode.read_message.Statement.{statement}
 use Rattle.wire.proofs.decode.read_message.Tie as tie
 
@@ -11,23 +12,21 @@ refuse-requires c κs = search needs
 
 returns : tie.Need-returns
 returns c =
-    let entry = c .before .before .before in
-    c .refuse .ensures ∙ read-short (now (entry .args .bytes)) (c .before .if1 .taken)
+    let start = c .before .before .before in
+    c .refuse .ensures ∙ read-short (now (start .args .bytes)) (c .before .if1 .taken)
 
-read-u32-requires : tie.Need-read-u32-requires
-read-u32-requires c κs = search needs
+header-from-requires : tie.Need-header-from-requires
+header-from-requires c κs = search needs
 
 refuse-requires-2 : tie.Need-refuse-requires-2
 refuse-requires-2 c κs = search needs
 
 returns-2 : tie.Need-returns-2
 returns-2 c =
-    let version = c .before .before in
-    let entry = version .before .before .before in
-    c .refuse2 .ensures ∙ read-other-version (now (entry .args .bytes)) (λ e. c .before .if2 .taken (version .read-u32 .ensures ∙ e))
-
-read-u32-requires-2 : tie.Need-read-u32-requires-2
-read-u32-requires-2 c κs = search needs
+    let header = c .before .before .before in
+    let s = now (header .before .before .before .args .bytes) in
+    let h = header-read s (header .header-from .result) (header .header-from .ensures) in
+    c .refuse2 .ensures ∙ read-other-version s (λ e. c .before .if2 .taken (h .version ∙ e))
 
 read-increment-requires : tie.Need-read-increment-requires
 read-increment-requires c κs = search needs
@@ -46,10 +45,11 @@ refuse-requires-3 c κs = search needs
 
 returns-5 : tie.Need-returns-5
 returns-5 c =
-    let kind = c .before .before .before in
-    let entry = kind .before .before .before .before .before in
-    let read = kind .read-u322 .ensures in
-    c .refuse3 .ensures ∙ read-other-kind (now (entry .args .bytes)) (λ e. c .before .before .if3 .left (read ∙ e)) (λ e. c .before .if4 .left (read ∙ e))
+    let else3 = c .before .before .before in
+    let header = else3 .before .before .before .before in
+    let s = now (header .before .before .before .args .bytes) in
+    let h = header-read s (header .header-from .result) (header .header-from .ensures) in
+    c .refuse3 .ensures ∙ read-other-kind s (λ e. else3 .if3 .left (h .kind ∙ e)) (λ e. c .before .if4 .left (h .kind ∙ e))
 
 pub read-message-spec : {M : Type 1} → statement M
 read-message-spec =
@@ -57,10 +57,9 @@ read-message-spec =
     (tie.spec
     refuse-requires
     returns
-    read-u32-requires
+    header-from-requires
     refuse-requires-2
     returns-2
-    read-u32-requires-2
     read-increment-requires
     returns-3
     read-clear-requires

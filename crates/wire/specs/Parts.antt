@@ -1,0 +1,20 @@
+-- DEFINITIONS. The parts of a message as they stand in the bytes, each number where the one before it ends (document 01, "Message").
+use Prim.Native.Nat.{ℕ, _+_, _-_}
+use mathlib.Core.List.{List}
+use lib.ListN.{length}
+use Rattle.wire.specs.Number.{int-at, hyper-at}
+pub use Rattle.wire.specs.declared.reader.Header.{Header}
+pub use Rattle.wire.specs.declared.reader.Increment.{Increment}
+
+abbrev pub header-at : List ℕ → Header
+header-at s = record {
+  version = int-at s 0;
+  kind = int-at s 4;
+  sender = int-at s 8;
+  sequence = hyper-at s 12;
+  counter = int-at s 20;
+  left = length s - 24;
+}
+
+abbrev pub increment-at : List ℕ → ℕ → Increment
+increment-at s at = record { p = hyper-at s at; start = int-at s (at + 8) }

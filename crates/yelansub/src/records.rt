@@ -1,0 +1,102 @@
+// A run of steps that the host lends as records of three numbers, above the step core that the run over bytes uses.
+use chassis::Sizes;
+use chassis::begin;
+use chassis::stepping;
+use chassis_model::Step;
+use replica::words;
+ghost use mathlib.Core.Path.{_≡_};
+ghost use Prim.Native.Nat.{_<_};
+ghost use lib.ListN.{length};
+ghost use Rattle.chassis_model.specs.Run.{RunOutcome, run-on};
+ghost use Rattle.chassis.specs.Turns.{Given, Turned};
+ghost use Rattle.yelansub.specs.Records.{Began, sizes-for};
+
+// Writes fresh replicas if the sizes are right. Only the words are lent: the other lengths are numbers.
+fn begin_records(
+    cards: u64,
+    counters: u64,
+    capacity: u64,
+    steps: usize,
+    words: &mut [u64],
+    logs: usize,
+    answers: usize,
+) -> u64
+    ensures { λ n. ⌜ Began cards counters capacity steps (now (words .entry)) logs answers n (now (words .exit)) ⌝ }
+{
+    if !begin::sizes_are_right(cards, counters, capacity, steps, words.len(), logs, answers) {
+        return protocol::WRONG_SIZES;
+    }
+    begin::fresh_all(words, cards as usize, counters as usize);
+    0
+}
+
+// One turn of the step core. One lifetime for all that is lent, so that a caller makes one for the call.
+fn turn_record<'a>(
+    cards: u64,
+    counters: u64,
+    capacity: u64,
+    s: Step,
+    i: usize,
+    words: &'a mut [u64],
+    logs: &'a mut [u8],
+    answers: &'a mut [u64],
+    places: &'a mut [u64; 256],
+) -> usize
+    requires { ⌜ Given (sizes-for cards counters capacity) (now words) (now logs) (now places) × (i < length (now answers)) ⌝ }
+    ensures { λ n. ⌜ Turned (sizes-for cards counters capacity) s i (now (words .entry)) (now (logs .entry)) (now (answers .entry)) (now (words .exit)) (now (logs .exit)) (now (answers .exit)) (now (places .exit)) n ⌝ }
+{
+    let r = cards as usize;
+    let k = counters as usize;
+    let z = Sizes {
+        cards: r,
+        counters: k,
+        capacity: capacity as usize,
+        replica: words::replica_words(r, k),
+    };
+    stepping::turn(z, s, i, words, logs, answers, places)
+}
+
+// Runs the steps from fresh replicas: the number, and of each step its answer. It is the run over bytes in all but the form of its steps
+// (claim `same-run`). The proof is a walk by hand.
+// Ruled out: answers that are not one for each step (must-fail/answers_not_counted), and a declined run that changes the words.
+#[no_mangle]
+pub extern "C" fn yelansub_run_records(
+    cards: u64,
+    counters: u64,
+    capacity: u64,
+    steps: &[Step],
+    words: &mut [u64],
+    logs: &mut [u8],
+    answers: &mut [u64],
+) -> u64
+    ensures { λ a. ⌜ _≡_ {A = RunOutcome} (record { number = a; words = now (words .exit); logs = now (logs .exit); answers = now (answers .exit) }) (run-on cards counters capacity (now (steps .entry)) (now (words .entry)) (now (logs .entry)) (now (answers .entry))) ⌝ }
+{
+    let number = begin_records(
+        cards,
+        counters,
+        capacity,
+        steps.len(),
+        words,
+        logs.len(),
+        answers.len(),
+    );
+    if number != 0 {
+        return number;
+    }
+    let mut places: [u64; 256] = [0; 256];
+    let mut i: usize = 0;
+    while i < steps.len() {
+        i = turn_record(
+            cards,
+            counters,
+            capacity,
+            steps[i],
+            i,
+            words,
+            logs,
+            answers,
+            &mut places,
+        );
+    }
+    0
+}
