@@ -109,7 +109,7 @@ fn put_listing(cards: usize, counters: usize, steps: &[u8], out: &mut [u8]) -> u
 }
 
 // Writes the listing of the run that the input gives, or the refusal, to the front of `out`, and answers its length. Every input has an answer;
-// bytes of `out` past the length stay. Ruled out: a listing with the holders in the value's place (must-fail/holders_for_value), one that
+// bytes of `out` past the length stay. Ruled out: a listing with the holders in the value's place, one that
 // calls a counter with a value quiet (must-fail/quiet_inverted).
 pub fn list(input: &[u8], out: &mut [u8; LISTING_BYTES]) -> usize
     ensures listed { λ r. ⌜ (now (out .exit) ≡ over (listing-of (now (input .entry))) (now (out .entry))) × (r ≡ length (listing-of (now (input .entry)))) ⌝ }

@@ -166,7 +166,7 @@ pub fn called_length_of(bytes: &[u8]) -> usize
 }
 
 // The length of the message that the bytes start with, 0 where they start with none that reads.
-// Ruled out: the called length of bytes that do not read (must-fail/front_unread), and 0 for a message with other bytes after it.
+// Ruled out: the called length of bytes that do not read, and 0 for a message with other bytes after it.
 pub fn front_length(bytes: &[u8]) -> usize
     ensures { λ r. ⌜ (r ≡ front-length (now (bytes .entry))) × (r ≤ length (now (bytes .entry))) ⌝ }
 {

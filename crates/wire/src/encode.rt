@@ -42,7 +42,7 @@ fn put_header(version: u32, kind: u32, sender: u32, sequence: u64, counter: u32,
 }
 
 // Inner door: writes an increment where there is room for it, whatever its numbers.
-// Ruled out: a number at another's place (must-fail/start_over_p), and bytes past the 36 that change.
+// Ruled out: a number at another's place, and bytes past the 36 that change.
 pub fn put_increment(sender: u32, sequence: u64, counter: u32, p: u64, start: u32, out: &mut [u8])
     requires { ⌜ 36 ≤ length (now out) ⌝ }
     ensures { λ _. ⌜ now (out .exit) ≡ over (message-bytes (increment-message sender sequence counter p start)) (now (out .entry)) ⌝ }

@@ -52,7 +52,7 @@ pub(crate) fn unsigned_int<'a>(r: Reader<'a>) -> u32
     number::read_u32(r.src, r.at)
 }
 
-// Ruled out: as for `unsigned_int` (must-fail/hyper_read_as_int).
+// Ruled out: as for `unsigned_int`.
 pub(crate) fn unsigned_hyper<'a>(r: Reader<'a>) -> u64
     requires { ⌜ r .at + 8 ≤ length (now (r .src)) ⌝ }
     ensures { λ x. ⌜ x ≡ hyper-at (now (r .entry .src)) (r .entry .at) ⌝ }
@@ -82,7 +82,7 @@ pub(crate) fn left<'a>(r: Reader<'a>) -> usize
 }
 
 // Ruled out: a number read at the place of the one before it, and an unsigned hyper that moves the reader
-// by 4 only (must-fail/counter_inside_sequence).
+// by 4 only.
 pub(crate) fn header_from(bytes: &[u8]) -> Header
     requires { ⌜ 24 ≤ length (now bytes) ⌝ }
     ensures { λ h. ⌜ h ≡ header-at (now (bytes .entry)) ⌝ }

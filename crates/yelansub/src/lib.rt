@@ -50,7 +50,7 @@ pub extern "C" fn yelansub_take(words: &mut [u64], message: &[u8]) -> Taken
     replica::take::take(words, message)
 }
 
-// Ruled out: every log's first message (must-fail/waiting_one_less), and a span of a message that does not read.
+// Ruled out: every log's first message, and a span of a message that does not read.
 #[no_mangle]
 pub extern "C" fn yelansub_waiting(log: &[u8], q: u64) -> Span
     ensures { λ a. ⌜ a ≡ waiting-span q (now (log .entry)) ⌝ }
@@ -58,7 +58,7 @@ pub extern "C" fn yelansub_waiting(log: &[u8], q: u64) -> Span
     chassis::log::waiting_span(log, q)
 }
 
-// Ruled out: cards and counters exchanged (must-fail/run_sizes_exchanged), and answers that are not written.
+// Ruled out: cards and counters exchanged, and answers that are not written.
 #[no_mangle]
 pub extern "C" fn yelansub_run(
     cards: u64,
