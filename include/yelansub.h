@@ -38,6 +38,11 @@ extern "C" {
 #define YELANSUB_CLEAR_BYTES(entries) (28 + 20 * (size_t)(entries))
 #define YELANSUB_LONGEST_MESSAGE 348
 
+/* The version of a message, and its kinds. */
+#define YELANSUB_MESSAGE_VERSION 1
+#define YELANSUB_MESSAGE_INCREMENT 1
+#define YELANSUB_MESSAGE_CLEAR 2
+
 /* Bytes of one step of yelansub_run. */
 #define YELANSUB_STEP_BYTES 12
 
@@ -48,7 +53,7 @@ extern "C" {
 #define YELANSUB_BAD_COUNTER 3      /* counter not below k */
 #define YELANSUB_EXHAUSTED 4        /* the card has made YELANSUB_MAX messages */
 #define YELANSUB_SHORT_OUTPUT 5     /* output shorter than the message */
-#define YELANSUB_UNREADABLE 6       /* the bytes are not one message */
+#define YELANSUB_UNREADABLE 6       /* bytes to read, or a struct to write, are no message */
 #define YELANSUB_BAD_CARD 7         /* a card not below r, or the own card as sender */
 #define YELANSUB_REPEATED 8         /* this message of the sender has been taken */
 #define YELANSUB_EARLY 9            /* an earlier message of the sender is missing */
@@ -138,6 +143,61 @@ struct yelansub_taken {
  */
 struct yelansub_taken yelansub_take(uint64_t *words, size_t words_len,
                                     const uint8_t *message, size_t message_len);
+
+struct yelansub_clear_entry {
+    uint32_t card; /* 0 to 15, above the card of the entry before */
+    uint64_t p, c; /* 1 <= p <= c <= YELANSUB_MAX */
+};
+
+/*
+ * A message held whole. An increment uses p and start, a clear len and the first
+ * len entries; all that its kind does not use is 0, the entries from len on
+ * included. So a message has one form.
+ * (rpcgen's header for message.x has another struct of this name: a file
+ * includes one of the two.)
+ */
+struct yelansub_message {
+    uint32_t version;  /* YELANSUB_MESSAGE_VERSION */
+    uint32_t kind;     /* YELANSUB_MESSAGE_INCREMENT or YELANSUB_MESSAGE_CLEAR */
+    uint32_t sender;   /* 0 to 15 */
+    uint64_t sequence; /* 1 to YELANSUB_MAX, counting the sender's messages from 1 */
+    uint32_t counter;  /* 0 to 63 */
+    uint64_t p;        /* increment: 1 to YELANSUB_MAX */
+    uint32_t start;    /* increment: 0 or 1 */
+    size_t len;        /* clear: how many entries, 0 to 16 */
+    struct yelansub_clear_entry entries[YELANSUB_MOST_CARDS];
+};
+
+struct yelansub_message_reading {
+    uint64_t number;
+    struct yelansub_message message; /* all zeros after a refusal */
+};
+
+/*
+ * Reads bytes as one message and changes nothing: to trace what goes over a
+ * link. Refused with
+ *   6  the bytes are not exactly one message, or a field is out of range.
+ * A message that reads may still be one that yelansub_take refuses: the format
+ * knows no r, no k and no replica.
+ */
+struct yelansub_message_reading yelansub_read_message(const uint8_t *bytes, size_t bytes_len);
+
+struct yelansub_written {
+    uint64_t number;
+    size_t length; /* bytes written to out; those past it keep their values */
+};
+
+/*
+ * Writes a message to the first bytes of out: 36 bytes for an increment, 28 and
+ * 20 more for each entry for a clear. What it writes, yelansub_read_message reads
+ * as the same message; what that call has read is written as the same bytes.
+ * Refused with, in this order,
+ *   6  a field is out of range, or one that the kind does not use is not 0,
+ *   5  out_len is below the length of this message.
+ * After a refusal no byte of out has changed.
+ */
+struct yelansub_written yelansub_write_message(struct yelansub_message message,
+                                               uint8_t *out, size_t out_len);
 
 struct yelansub_span {
     uint64_t start;

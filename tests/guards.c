@@ -12,6 +12,25 @@
 
 #include "yelansub.h"
 
+/* The library's layout of a message, as the compiler of this header sees it. */
+#define LAID_OUT(type, field, at) _Static_assert(offsetof(struct type, field) == (at), #type "." #field)
+LAID_OUT(yelansub_clear_entry, p, 8);
+LAID_OUT(yelansub_clear_entry, c, 16);
+LAID_OUT(yelansub_message, kind, 4);
+LAID_OUT(yelansub_message, sender, 8);
+LAID_OUT(yelansub_message, sequence, 16);
+LAID_OUT(yelansub_message, counter, 24);
+LAID_OUT(yelansub_message, p, 32);
+LAID_OUT(yelansub_message, start, 40);
+LAID_OUT(yelansub_message, len, 48);
+LAID_OUT(yelansub_message, entries, 56);
+LAID_OUT(yelansub_message_reading, message, 8);
+LAID_OUT(yelansub_written, length, 8);
+_Static_assert(sizeof(struct yelansub_clear_entry) == 24, "a clear's entry");
+_Static_assert(sizeof(struct yelansub_message) == 440, "a message");
+_Static_assert(sizeof(struct yelansub_message_reading) == 448, "a message read");
+_Static_assert(sizeof(struct yelansub_written) == 16, "a message written");
+
 enum { PAGE = 4096, MARK = 0xa5 };
 
 static const char *doing = "start";
@@ -86,6 +105,33 @@ static uint64_t any(uint64_t below)
     return (random_state >> 33) % below;
 }
 
+static const struct yelansub_message no_message;
+
+/* An increment, or a clear of `entries` cards from 0 on. */
+static struct yelansub_message message_of(unsigned kind, size_t entries)
+{
+    struct yelansub_message m = {1, kind, 15, YELANSUB_MAX, 63, 0, 0, 0, {{0, 0, 0}}};
+    if (kind == YELANSUB_MESSAGE_INCREMENT) {
+        m.p = YELANSUB_MAX;
+        m.start = 1;
+    }
+    for (m.len = 0; m.len < entries; m.len++)
+        m.entries[m.len] = (struct yelansub_clear_entry){(uint32_t)m.len, 1 + m.len, YELANSUB_MAX - m.len};
+    return m;
+}
+
+/* The same in every field; what lies between fields says nothing. */
+static int same(const struct yelansub_message *a, const struct yelansub_message *b)
+{
+    int fields = a->version == b->version && a->kind == b->kind && a->sender == b->sender &&
+                 a->sequence == b->sequence && a->counter == b->counter && a->p == b->p &&
+                 a->start == b->start && a->len == b->len;
+    for (size_t i = 0; i < YELANSUB_MOST_CARDS; i++)
+        fields = fields && a->entries[i].card == b->entries[i].card &&
+                 a->entries[i].p == b->entries[i].p && a->entries[i].c == b->entries[i].c;
+    return fields;
+}
+
 /* Null and a pointer to nothing, with length 0, for every buffer of every export. */
 static void no_memory(void)
 {
@@ -111,6 +157,12 @@ static void no_memory(void)
         struct yelansub_taken taken = yelansub_take(p, 0, p, 0);
         HOLD(taken.number == 1 && !taken.sequence);
         HOLD(yelansub_take(fresh, len, p, 0).number == 6);
+        struct yelansub_message_reading read = yelansub_read_message(p, 0);
+        HOLD(read.number == 6 && same(&read.message, &no_message));
+        struct yelansub_written written = yelansub_write_message(message_of(2, 0), p, 0);
+        HOLD(written.number == 5 && !written.length);
+        written = yelansub_write_message(no_message, p, 0);
+        HOLD(written.number == 6 && !written.length);
         struct yelansub_span span = yelansub_waiting(p, 0, 1);
         HOLD(span.start == 0 && span.length == 0);
         span = yelansub_waiting(p, 0, 0);
@@ -198,6 +250,79 @@ static void refusals(int at_end)
     drop(&m);
 }
 
+/* Every message length, with one byte of output too few, none to spare, and more. */
+static void exact_messages(int at_end)
+{
+    for (size_t entries = 0; entries <= YELANSUB_MOST_CARDS + 1; entries++) {
+        int is_clear = entries <= YELANSUB_MOST_CARDS;
+        struct yelansub_message message = is_clear ? message_of(2, entries) : message_of(1, 0);
+        size_t bytes = is_clear ? YELANSUB_CLEAR_BYTES(entries) : YELANSUB_INCREMENT_BYTES;
+        for (size_t room = bytes - 1; room <= bytes + 2; room++) {
+            struct area m = area(room, at_end);
+            doing = "write a message";
+            keep(&m);
+            struct yelansub_written written = yelansub_write_message(message, in(&m), room);
+            if (room < bytes)
+                HOLD(written.number == 5 && !written.length && unchanged(&m));
+            else
+                HOLD(written.number == 0 && written.length == bytes && only(&m, bytes));
+            doing = "read a message";
+            keep(&m);
+            struct yelansub_message_reading read = yelansub_read_message(in(&m), room);
+            HOLD(read.number == (room == bytes ? 0 : 6) && unchanged(&m));
+            HOLD(same(&read.message, room == bytes ? &message : &no_message));
+            drop(&m);
+        }
+    }
+}
+
+/* Each field out of range, and each that the kind does not use not 0. */
+static void refused_messages(int at_end)
+{
+    struct yelansub_message wrong[32], increment = message_of(1, 0), clear = message_of(2, 3);
+    size_t n = 0;
+#define WRONG(of, field, value) (wrong[n] = (of), wrong[n++].field = (value))
+    WRONG(increment, version, 2);
+    WRONG(increment, kind, 0);
+    WRONG(increment, kind, 3);
+    WRONG(increment, sender, 16);
+    WRONG(increment, sequence, 0);
+    WRONG(increment, sequence, YELANSUB_MAX + 1);
+    WRONG(increment, counter, 64);
+    WRONG(increment, p, 0);
+    WRONG(increment, p, YELANSUB_MAX + 1);
+    WRONG(increment, start, 2);
+    WRONG(increment, len, 1);
+    WRONG(increment, len, SIZE_MAX);
+    WRONG(increment, entries[0].card, 1);
+    WRONG(increment, entries[15].c, 1);
+    WRONG(clear, version, 0);
+    WRONG(clear, kind, 1);
+    WRONG(clear, p, 1);
+    WRONG(clear, start, 1);
+    WRONG(clear, len, 2);
+    WRONG(clear, len, 4);
+    WRONG(clear, len, 17);
+    WRONG(clear, len, SIZE_MAX);
+    WRONG(clear, entries[2].card, 16);
+    WRONG(clear, entries[2].card, 1);
+    WRONG(clear, entries[0].p, 0);
+    WRONG(clear, entries[1].p, clear.entries[1].c + 1);
+    WRONG(clear, entries[1].c, YELANSUB_MAX + 1);
+    WRONG(clear, entries[3].p, 1);
+    WRONG(clear, entries[15].card, 15);
+#undef WRONG
+    struct area o = area(YELANSUB_LONGEST_MESSAGE, at_end);
+    keep(&o);
+    doing = "refused message";
+    for (size_t i = 0; i < n; i++)
+        for (size_t room = 0; room <= o.len; room += o.len) {
+            struct yelansub_written written = yelansub_write_message(wrong[i], in(&o), room);
+            HOLD(written.number == 6 && !written.length && unchanged(&o));
+        }
+    drop(&o);
+}
+
 /* Every card counts, one clears, all take: outputs as long as needed, or one or two bytes more. */
 static void exact_buffers(unsigned cards, unsigned counters, int at_end)
 {
@@ -242,13 +367,13 @@ static void exact_buffers(unsigned cards, unsigned counters, int at_end)
     }
 }
 
-/* Bytes of every length, good at the front or not, to take and waiting. */
+/* Bytes of every length, good at the front or not, to take, read_message and waiting. */
 static void odd_bytes(int at_end)
 {
     size_t len = YELANSUB_REPLICA_WORDS(16, 1);
     struct area w = area(len * sizeof(uint64_t), at_end);
     for (size_t length = 0; length < 420; length++) {
-        struct area m = area(length, at_end);
+        struct area m = area(length, at_end), o = area(length, at_end);
         uint8_t *bytes = in(&m);
         for (int round = 0; round < 40; round++) {
             HOLD(yelansub_open(in(&w), len, 16, 1, 0) == 0);
@@ -267,6 +392,16 @@ static void odd_bytes(int at_end)
             doing = "take of odd bytes";
             struct yelansub_taken taken = yelansub_take(in(&w), len, bytes, length);
             HOLD(unchanged(&m) && (taken.number == 0 ? only(&w, w.len) : unchanged(&w)));
+            doing = "reading odd bytes, and writing what was read";
+            struct yelansub_message_reading read = yelansub_read_message(bytes, length);
+            HOLD(unchanged(&m) && (read.number == 0 || (read.number == 6 && same(&read.message, &no_message))));
+            keep(&o);
+            struct yelansub_written written = yelansub_write_message(read.message, in(&o), length);
+            HOLD(written.number == read.number);
+            if (written.number == 0)
+                HOLD(written.length == length && only(&o, length) && memcmp(in(&o), bytes, length) == 0);
+            else
+                HOLD(!written.length && unchanged(&o));
             doing = "waiting in odd bytes";
             for (uint64_t q = 0; q < 4; q++) {
                 struct yelansub_span span = yelansub_waiting(bytes, length, q);
@@ -274,6 +409,7 @@ static void odd_bytes(int at_end)
             }
         }
         drop(&m);
+        drop(&o);
     }
     drop(&w);
 }
@@ -337,6 +473,8 @@ int main(void)
     no_memory();
     for (int at_end = 0; at_end < 2; at_end++) {
         refusals(at_end);
+        exact_messages(at_end);
+        refused_messages(at_end);
         for (unsigned cards = 1; cards <= YELANSUB_MOST_CARDS; cards++) {
             exact_buffers(cards, 1, at_end);
             exact_buffers(cards, 7, at_end);

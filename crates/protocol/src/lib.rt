@@ -45,6 +45,7 @@ pub struct Entry {
 }
 
 // An entry of a clear message: (j, p, c) of Algorithm 1.
+#[repr(C)]
 pub struct ClearEntry {
     pub card: u32,
     pub p: u64,

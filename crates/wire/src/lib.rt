@@ -40,6 +40,7 @@ const ENTRY_C_AT: usize = 12;
 pub const INCREMENT_LENGTH: usize = 36;
 
 // A message held whole: kind 1 uses `p` and `start`, kind 2 the first `len` entries. What its kind does not use is zero.
+#[repr(C)]
 pub struct Message {
     pub version: u32,
     pub kind: u32,
@@ -53,12 +54,14 @@ pub struct Message {
 }
 
 // Number 0 with the message, or number 6 with zeros.
+#[repr(C)]
 pub struct Reading {
     pub number: u64,
     pub message: Message,
 }
 
 // Number 0 with the length written, or the number of the refusal with zero.
+#[repr(C)]
 pub struct Written {
     pub number: u64,
     pub length: usize,

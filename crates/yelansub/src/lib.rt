@@ -5,7 +5,10 @@ use chassis_model::Span;
 use replica_model::Reading;
 use replica_model::Sent;
 use replica_model::Taken;
+use wire::Message;
+use wire::Written;
 ghost use mathlib.Core.Path.{_≡_};
+ghost use Rattle.wire.specs.Message.{read-message, WriteOutcome, write-message};
 ghost use Rattle.replica_model.specs.Calls.{OpenOutcome, open-on, read-on, SendOutcome, count-on, clear-on, TakeOutcome, take-on};
 ghost use Rattle.chassis_model.specs.Log.{waiting-span};
 ghost use Rattle.chassis_model.specs.Run.{RunOutcome, run-bytes-on};
@@ -48,6 +51,22 @@ pub extern "C" fn yelansub_take(words: &mut [u64], message: &[u8]) -> Taken
     ensures { λ a. ⌜ _≡_ {A = TakeOutcome} (record { answer = a; words = now (words .exit) }) (take-on (now (words .entry)) (now (message .entry))) ⌝ }
 {
     replica::take::take(words, message)
+}
+
+// Ruled out: a reader that only declines (must-fail/read_message_declines), and one that reads a part of the bytes.
+#[no_mangle]
+pub extern "C" fn yelansub_read_message(bytes: &[u8]) -> wire::Reading
+    ensures { λ a. ⌜ a ≡ read-message (now (bytes .entry)) ⌝ }
+{
+    wire::decode::read_message(bytes)
+}
+
+// Ruled out: a refusal answered with 0 (must-fail/write_refusal_hidden), and a message that is not written.
+#[no_mangle]
+pub extern "C" fn yelansub_write_message(message: Message, out: &mut [u8]) -> Written
+    ensures { λ a. ⌜ _≡_ {A = WriteOutcome} (record { answer = a; out = now (out .exit) }) (write-message message (now (out .entry))) ⌝ }
+{
+    wire::encode::write_message(message, out)
 }
 
 // Ruled out: every log's first message, and a span of a message that does not read.
