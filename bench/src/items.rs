@@ -352,15 +352,8 @@ fn rpcgen_write(s: &mut State, counter: usize) {
 
 fn library_run(s: &mut State) {
     let (r, k, l) = (CARDS as u64, COUNTERS as u64, LOG_BYTES as u64);
-    black_box(library::run(
-        r,
-        k,
-        l,
-        &s.steps[s.part.clone()],
-        &mut s.words,
-        &mut s.logs,
-        &mut s.answers,
-    ));
+    let lent = Buffers { words: &mut s.words, logs: &mut s.logs, answers: &mut s.answers };
+    black_box(library::run(r, k, l, &s.steps[s.part.clone()], lent));
 }
 
 #[inline(never)]

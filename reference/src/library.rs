@@ -3,6 +3,8 @@
 //! A slice goes over as pointer and length; an empty one as null and 0, which every export takes.
 //! Answers keep the shape of the C structs, number first.
 
+use crate::chassis::{Buffers, Step};
+
 #[repr(C)]
 #[derive(Clone, Copy, Debug, Default, PartialEq, Eq)]
 pub struct Reading {
@@ -35,8 +37,7 @@ pub struct Span {
 }
 
 mod raw {
-    use super::{Reading, Sent, Span, Taken};
-    use crate::chassis::Step;
+    use super::{Reading, Sent, Span, Step, Taken};
 
     extern "C" {
         pub fn yelansub_open(
@@ -141,46 +142,43 @@ pub fn waiting(log: &[u8], q: u64) -> Span {
     unsafe { raw::yelansub_waiting(lend(log), log.len(), q) }
 }
 
-pub fn run(
-    cards: u64,
-    counters: u64,
-    log_bytes: u64,
-    steps: &[u8],
-    words: &mut [u64],
-    logs: &mut [u8],
-    answers: &mut [u64],
-) -> u64 {
-    unsafe {
-        raw::yelansub_run(
-            cards,
-            counters,
-            log_bytes,
-            lend(steps),
-            steps.len(),
-            lend_mut(words),
-            words.len(),
-            lend_mut(logs),
-            logs.len(),
-            lend_mut(answers),
-            answers.len(),
-        )
-    }
+pub fn run(cards: u64, counters: u64, log_bytes: u64, steps: &[u8], lent: Buffers) -> u64 {
+    run_by(raw::yelansub_run, [cards, counters, log_bytes], steps, lent)
 }
 
 pub fn run_records(
     cards: u64,
     counters: u64,
     log_bytes: u64,
-    steps: &[crate::chassis::Step],
-    words: &mut [u64],
-    logs: &mut [u8],
-    answers: &mut [u64],
+    steps: &[Step],
+    lent: Buffers,
 ) -> u64 {
+    run_by(raw::yelansub_run_records, [cards, counters, log_bytes], steps, lent)
+}
+
+/// An export that runs steps of type `S`: three sizes, then four slices.
+type Run<S> = unsafe extern "C" fn(
+    u64,
+    u64,
+    u64,
+    *const S,
+    usize,
+    *mut u64,
+    usize,
+    *mut u8,
+    usize,
+    *mut u64,
+    usize,
+) -> u64;
+
+/// Both runs over their exports, which differ in the type of a step alone.
+fn run_by<S>(export: Run<S>, sizes: [u64; 3], steps: &[S], lent: Buffers) -> u64 {
+    let Buffers { words, logs, answers } = lent;
     unsafe {
-        raw::yelansub_run_records(
-            cards,
-            counters,
-            log_bytes,
+        export(
+            sizes[0],
+            sizes[1],
+            sizes[2],
             lend(steps),
             steps.len(),
             lend_mut(words),

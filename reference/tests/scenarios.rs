@@ -26,8 +26,8 @@ fn after(cards: usize, counters: usize, list: &[(u32, u32, u32)]) -> After {
         (words.clone(), logs.clone(), answers.clone());
     let lent = Buffers { words: &mut our_words, logs: &mut our_logs, answers: &mut our_answers };
     chassis::run(r, k, LOG_BYTES as u64, &bytes, lent).unwrap();
-    let number = library::run(r, k, LOG_BYTES as u64, &bytes, &mut words, &mut logs, &mut answers);
-    assert_eq!(number, 0);
+    let lent = Buffers { words: &mut words, logs: &mut logs, answers: &mut answers };
+    assert_eq!(library::run(r, k, LOG_BYTES as u64, &bytes, lent), 0);
     assert!(answers.iter().all(|answer| *answer == 0), "{answers:?}");
     assert!(words == our_words && logs == our_logs && answers == our_answers);
     After { cards, counters, words }
@@ -220,7 +220,8 @@ fn bytes_past_a_cards_own_messages_are_no_message() {
     let mut words = vec![0; 2 * words_of(2, 1)];
     let mut answers = [0];
     assert_eq!(library::waiting(&logs[..36], 1).length, 36);
-    assert_eq!(library::run(2, 1, 36, &steps, &mut words, &mut logs, &mut answers), 0);
+    let lent = Buffers { words: &mut words, logs: &mut logs, answers: &mut answers };
+    assert_eq!(library::run(2, 1, 36, &steps, lent), 0);
     assert_eq!(answers, [13]);
     assert_eq!(logs, [foreign, foreign].concat());
 }
@@ -233,10 +234,14 @@ fn nothing_lent() {
     assert_eq!(library::clear(&mut [], 0, &mut []).number, 1);
     assert_eq!(library::take(&mut [], &[]).number, 1);
     assert_eq!(library::waiting(&[], 1), library::Span::default());
-    assert_eq!(library::run(1, 1, 0, &[], &mut [], &mut [], &mut []), 11);
+    let run = |cards, words: &mut [u64]| {
+        let lent = Buffers { words, logs: &mut [], answers: &mut [] };
+        library::run(cards, 1, 0, &[], lent)
+    };
+    assert_eq!(run(1, &mut []), 11);
     let mut words = fresh(2, 1, 0);
     assert_eq!(library::count(&mut words, 0, &mut []).number, 5);
     assert_eq!(library::clear(&mut words, 0, &mut []).number, 5);
     assert_eq!(library::take(&mut words, &[]).number, 6);
-    assert_eq!(library::run(2, 1, 0, &[], &mut vec![7; 2 * words.len()], &mut [], &mut []), 0);
+    assert_eq!(run(2, &mut vec![7; 2 * words.len()]), 0);
 }

@@ -15,6 +15,21 @@ pub const STEP: &[u64] = &[0, 3, 7, 12, 13, 14];
 /// Says where a difference was met.
 type Place<'a> = &'a dyn Fn() -> String;
 
+/// A run of either side, steps given as bytes.
+type Run = fn(u64, u64, u64, &[u8], Buffers) -> u64;
+
+fn reference(cards: u64, counters: u64, log_bytes: u64, steps: &[u8], lent: Buffers) -> u64 {
+    number(chassis::run(cards, counters, log_bytes, steps, lent))
+}
+
+/// The same steps, handed over as records.
+const RECORDS: [Run; 2] = [
+    |r, k, log_bytes, steps, lent| {
+        number(chassis::run_records(r, k, log_bytes, &steps_of(steps), lent))
+    },
+    |r, k, log_bytes, steps, lent| library::run_records(r, k, log_bytes, &steps_of(steps), lent),
+];
+
 /// Everything that a run is given.
 #[derive(Clone, Debug)]
 struct Lent {
@@ -28,47 +43,13 @@ struct Lent {
 }
 
 impl Lent {
-    fn reference(&mut self) -> u64 {
+    fn run(&mut self, call: Run) -> u64 {
         let lent = Buffers {
             words: self.words.get_mut(),
             logs: self.logs.get_mut(),
             answers: self.answers.get_mut(),
         };
-        number(chassis::run(self.cards, self.counters, self.log_bytes, &self.steps, lent))
-    }
-
-    fn reference_records(&mut self) -> u64 {
-        let lent = Buffers {
-            words: self.words.get_mut(),
-            logs: self.logs.get_mut(),
-            answers: self.answers.get_mut(),
-        };
-        let steps = steps_of(&self.steps);
-        number(chassis::run_records(self.cards, self.counters, self.log_bytes, &steps, lent))
-    }
-
-    fn library(&mut self) -> u64 {
-        library::run(
-            self.cards,
-            self.counters,
-            self.log_bytes,
-            &self.steps,
-            self.words.get_mut(),
-            self.logs.get_mut(),
-            self.answers.get_mut(),
-        )
-    }
-
-    fn library_records(&mut self) -> u64 {
-        library::run_records(
-            self.cards,
-            self.counters,
-            self.log_bytes,
-            &steps_of(&self.steps),
-            self.words.get_mut(),
-            self.logs.get_mut(),
-            self.answers.get_mut(),
-        )
+        call(self.cards, self.counters, self.log_bytes, &self.steps, lent)
     }
 
     fn same_buffers(&self, other: &Lent) -> bool {
@@ -96,14 +77,14 @@ pub fn random_runs(seed: u64, cases: u64, longest: u64) -> Tally {
 
 fn compare(lent: &Lent, place: Place, tally: &mut Tally) {
     let (mut ours, mut theirs) = (lent.clone(), lent.clone());
-    let (our_number, their_number) = (ours.reference(), theirs.library());
+    let (our_number, their_number) = (ours.run(reference), theirs.run(library::run));
     assert_eq!(our_number, their_number, "run: {}", place());
     assert!(ours.same_buffers(&theirs), "run, {their_number}: {}\n{ours:?}\n{theirs:?}", place());
     tally.note("run", their_number);
     if lent.steps.len().is_multiple_of(STEP_BYTES) {
-        for call in [Lent::reference_records, Lent::library_records] {
+        for call in RECORDS {
             let mut records = lent.clone();
-            assert_eq!(call(&mut records), their_number, "run of records: {}", place());
+            assert_eq!(records.run(call), their_number, "run of records: {}", place());
             assert!(records.same_buffers(&theirs), "run of records: {}", place());
         }
         tally.note("records", their_number);
@@ -372,11 +353,12 @@ impl Search {
         let len = self.steps.len() / STEP_BYTES;
         let buffers = || (vec![7u64; self.cards * each], self.foreign.clone(), vec![7u64; len]);
         let (mut words, mut logs, mut answers) = buffers();
-        let theirs = library::run(r, k, log, &self.steps, &mut words, &mut logs, &mut answers);
+        let lent = Buffers { words: &mut words, logs: &mut logs, answers: &mut answers };
+        let theirs = library::run(r, k, log, &self.steps, lent);
         let (mut our_words, mut our_logs, mut our_answers) = buffers();
         let lent =
             Buffers { words: &mut our_words, logs: &mut our_logs, answers: &mut our_answers };
-        let ours = number(chassis::run(r, k, log, &self.steps, lent));
+        let ours = reference(r, k, log, &self.steps, lent);
         let same =
             ours == theirs && our_words == words && our_logs == logs && our_answers == answers;
         assert!(same, "run of {}", self.text());
