@@ -4,6 +4,8 @@
 //! Answers keep the shape of the C structs, number first.
 
 use crate::chassis::{Buffers, Step};
+use crate::limits::MAX_CARDS;
+use crate::message::Entry;
 
 #[repr(C)]
 #[derive(Clone, Copy, Debug, Default, PartialEq, Eq)]
@@ -36,8 +38,37 @@ pub struct Span {
     pub length: u64,
 }
 
+/// What its kind does not use is 0, the entries from `len` on included.
+#[repr(C)]
+#[derive(Clone, Copy, Debug, Default, PartialEq, Eq)]
+pub struct Message {
+    pub version: u32,
+    pub kind: u32,
+    pub sender: u32,
+    pub sequence: u64,
+    pub counter: u32,
+    pub p: u64,
+    pub start: u32,
+    pub len: usize,
+    pub entries: [Entry; MAX_CARDS],
+}
+
+#[repr(C)]
+#[derive(Clone, Copy, Debug, Default, PartialEq, Eq)]
+pub struct MessageReading {
+    pub number: u64,
+    pub message: Message,
+}
+
+#[repr(C)]
+#[derive(Clone, Copy, Debug, Default, PartialEq, Eq)]
+pub struct Written {
+    pub number: u64,
+    pub length: usize,
+}
+
 mod raw {
-    use super::{Reading, Sent, Span, Step, Taken};
+    use super::{Message, MessageReading, Reading, Sent, Span, Step, Taken, Written};
 
     extern "C" {
         pub fn yelansub_open(
@@ -68,6 +99,8 @@ mod raw {
             message: *const u8,
             message_len: usize,
         ) -> Taken;
+        pub fn yelansub_read_message(bytes: *const u8, bytes_len: usize) -> MessageReading;
+        pub fn yelansub_write_message(message: Message, out: *mut u8, out_len: usize) -> Written;
         pub fn yelansub_waiting(log: *const u8, log_len: usize, q: u64) -> Span;
         pub fn yelansub_run(
             cards: u64,
@@ -136,6 +169,14 @@ pub fn clear(words: &mut [u64], counter: u64, out: &mut [u8]) -> Sent {
 
 pub fn take(words: &mut [u64], message: &[u8]) -> Taken {
     unsafe { raw::yelansub_take(lend_mut(words), words.len(), lend(message), message.len()) }
+}
+
+pub fn read_message(bytes: &[u8]) -> MessageReading {
+    unsafe { raw::yelansub_read_message(lend(bytes), bytes.len()) }
+}
+
+pub fn write_message(message: Message, out: &mut [u8]) -> Written {
+    unsafe { raw::yelansub_write_message(message, lend_mut(out), out.len()) }
 }
 
 pub fn waiting(log: &[u8], q: u64) -> Span {

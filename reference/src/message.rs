@@ -12,6 +12,7 @@ pub const EMPTY_CLEAR_BYTES: usize = 28;
 pub const ENTRY_BYTES: usize = 20;
 pub const LONGEST: usize = EMPTY_CLEAR_BYTES + ENTRY_BYTES * MAX_CARDS;
 
+#[repr(C)]
 #[derive(Clone, Copy, Debug, Default, PartialEq, Eq)]
 pub struct Entry {
     pub card: u32,

@@ -1,7 +1,7 @@
 //! The library against the reference and the ledger, a fixed number of cases from printed seeds.
 //! YELANSUB_SEED sets another seed; `cargo run --release --bin soak` goes on for as long as asked.
 
-use yelansub_reference::differential::{calls, logs, runs};
+use yelansub_reference::differential::{calls, logs, messages, runs};
 
 fn seed() -> u64 {
     let given = std::env::var("YELANSUB_SEED").ok();
@@ -35,6 +35,27 @@ fn longer_random_runs_agree() {
     let (seed, cases) = (seed() + 1, 300);
     let tally = runs::random_runs(seed, cases, 1_000);
     println!("{cases} longer runs from seed {seed}\n{tally}");
+}
+
+#[test]
+fn random_messages_read_and_write_the_same() {
+    let (seed, cases) = (seed(), 400_000);
+    let tally = messages::random_messages(seed, cases);
+    println!("{cases} messages from seed {seed}\n{tally}");
+    tally.require("read_message", messages::READ);
+    tally.require("write_message", messages::WRITE);
+}
+
+#[test]
+fn every_field_of_a_message_at_every_edge() {
+    let tally = messages::every_field_at_every_edge();
+    println!("{tally}");
+    for (name, _) in messages::FIELDS {
+        tally.require(name, messages::FIELD);
+    }
+    for (name, _) in messages::ENTRY_FIELDS {
+        tally.require(name, messages::FIELD);
+    }
 }
 
 #[test]

@@ -233,6 +233,8 @@ fn nothing_lent() {
     assert_eq!(library::count(&mut [], 0, &mut []).number, 1);
     assert_eq!(library::clear(&mut [], 0, &mut []).number, 1);
     assert_eq!(library::take(&mut [], &[]).number, 1);
+    assert_eq!(library::read_message(&[]).number, 6);
+    assert_eq!(library::write_message(library::Message::default(), &mut []).number, 6);
     assert_eq!(library::waiting(&[], 1), library::Span::default());
     let run = |cards, words: &mut [u64]| {
         let lent = Buffers { words, logs: &mut [], answers: &mut [] };

@@ -1,6 +1,7 @@
 //! The library and the reference against bytes made by rpcgen and libtirpc from
 //! `include/message.x` (`vectors/regenerate.sh` makes them again).
 
+use yelansub_reference::differential::messages;
 use yelansub_reference::library;
 use yelansub_reference::limits::{MAX, MAX_CARDS, MAX_COUNTERS};
 use yelansub_reference::message::{self, Body, Entries, Entry, Message, LONGEST};
@@ -121,6 +122,20 @@ fn reference_writes_and_reads_the_vectors() {
 }
 
 #[test]
+fn library_reads_and_writes_the_vectors() {
+    for Vector { message, bytes } in vectors() {
+        let form = messages::form_of(&message);
+        let read = library::MessageReading { number: 0, message: form };
+        assert_eq!(library::read_message(&bytes), read, "{message:?}");
+        let mut out = [0xee; LONGEST + 4];
+        let written = library::write_message(form, &mut out);
+        assert_eq!(written, library::Written { number: 0, length: bytes.len() }, "{message:?}");
+        assert_eq!(out[..bytes.len()], bytes, "{message:?}");
+        assert!(out[bytes.len()..].iter().all(|byte| *byte == 0xee), "{message:?}");
+    }
+}
+
+#[test]
 fn library_makes_the_vectors() {
     for Vector { message, bytes } in vectors() {
         let mut words = maker(&message);
@@ -162,6 +177,8 @@ fn every_flipped_bit_and_every_other_length_of_the_vectors_agrees() {
             let answer = if taken.number == 0 { Ok(taken.sequence) } else { Err(taken.number) };
             assert_eq!(answer, expected, "{bytes:?}");
             assert_eq!(ours, theirs, "{bytes:?}");
+            let read = messages::reading(message::read(bytes));
+            assert_eq!(library::read_message(bytes), read, "{bytes:?}");
             unreadable += u32::from(taken.number == 6);
             if taken.number == 0 {
                 ours.copy_from_slice(&before);

@@ -1,10 +1,10 @@
-//! Random calls, logs and runs against the library for as long as asked, then deeper exhaustive
-//! lists: `cargo run --release --offline --bin soak -- [MINUTES] [FIRST_SEED]`.
+//! Random calls, messages, logs and runs against the library for as long as asked, then deeper
+//! exhaustive lists: `cargo run --release --offline --bin soak -- [MINUTES] [FIRST_SEED]`.
 //! Each round prints its seed; a difference panics with seed and case.
 
 use std::time::{Duration, Instant};
 
-use yelansub_reference::differential::{calls, logs, runs};
+use yelansub_reference::differential::{calls, logs, messages, runs};
 
 fn main() {
     let mut arguments = std::env::args().skip(1).map(|a| a.parse::<u64>().expect("a number"));
@@ -13,6 +13,7 @@ fn main() {
     let until = Instant::now() + Duration::from_secs(60 * minutes);
     for seed in first.. {
         println!("seed {seed}\n{}", calls::random_calls(seed, 200_000));
+        println!("{}", messages::random_messages(seed, 200_000));
         println!("{}", logs::random_logs(seed, 20_000));
         println!("{}", runs::random_runs(seed, 20_000, 80));
         println!("{}", runs::random_runs(seed, 20, 5_000));

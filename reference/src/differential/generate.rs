@@ -2,6 +2,7 @@
 
 use crate::chassis::{self, Buffers, Step};
 use crate::limits::{MAX, MAX_CARDS, MAX_COUNTERS};
+use crate::message::{Body, Entries, Entry, Message};
 use crate::random::Random;
 use crate::replica::{self, words_of};
 
@@ -153,6 +154,30 @@ pub fn counter(random: &mut Random, words: &[u64]) -> u64 {
         0 => counters,
         1 => random.pick(&EDGES),
         _ => random.below(counters),
+    }
+}
+
+/// A message in range, from no replica.
+pub fn message(random: &mut Random) -> Message {
+    let from_one = |random: &mut Random, limit: u64| 1 + count(random, limit - 1);
+    let body = if random.percent(50) {
+        Body::Increment { p: from_one(random, MAX), start: random.percent(50) }
+    } else {
+        let mut entries = Entries::new();
+        let density = random.pick(&[0, 20, 55, 100]);
+        for card in 0..MAX_CARDS as u32 {
+            if random.percent(density) {
+                let c = from_one(random, MAX);
+                entries.push(Entry { card, p: from_one(random, c), c });
+            }
+        }
+        Body::Clear(entries)
+    };
+    Message {
+        sender: random.below(MAX_CARDS as u64) as u32,
+        sequence: from_one(random, MAX),
+        counter: random.below(MAX_COUNTERS as u64) as u32,
+        body,
     }
 }
 

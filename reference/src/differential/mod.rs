@@ -4,12 +4,16 @@
 pub mod calls;
 pub mod generate;
 pub mod logs;
+pub mod messages;
 pub mod runs;
 
 use std::collections::BTreeMap;
 use std::fmt;
 
 use crate::{library, replica};
+
+/// Says where a difference was met.
+type Place<'a> = &'a dyn Fn() -> String;
 
 /// How often each call gave each number.
 #[derive(Clone, Debug, Default)]

@@ -1,7 +1,7 @@
 //! Runs: random lists and sizes, and every list of a small chassis to a depth, against the
 //! reference and against the ledger of every counter.
 
-use super::{generate, number, Guarded, Tally};
+use super::{generate, number, Guarded, Place, Tally};
 use crate::chassis::{self, Buffers, Step, DELIVER, STEP_BYTES};
 use crate::ledger::Ledger;
 use crate::library;
@@ -11,9 +11,6 @@ use crate::replica::words_of;
 pub const RUN: &[u64] = &[0, 11];
 /// 4 needs 2^48 - 1 messages of one card first.
 pub const STEP: &[u64] = &[0, 3, 7, 12, 13, 14];
-
-/// Says where a difference was met.
-type Place<'a> = &'a dyn Fn() -> String;
 
 /// A run of either side, steps given as bytes.
 type Run = fn(u64, u64, u64, &[u8], Buffers) -> u64;

@@ -1,0 +1,216 @@
+//! A message alone, read from bytes and written from the header's struct, good and damaged.
+
+use super::{generate, Guarded, Place, Tally};
+use crate::library::{self, MessageReading, Written};
+use crate::limits::{MAX_CARDS, UNREADABLE};
+use crate::message::{
+    self, Body, Entries, Entry, Message, KIND_CLEAR, KIND_INCREMENT, LONGEST, VERSION,
+};
+use crate::random::Random;
+
+/// Numbers that each call can give.
+pub const READ: &[u64] = &[0, 6];
+pub const WRITE: &[u64] = &[0, 5, 6];
+/// What writing gives where one field takes every edge and there is room.
+pub const FIELD: &[u64] = &[0, 6];
+
+type Set<T> = (&'static str, fn(&mut T, u64));
+
+pub const FIELDS: [Set<library::Message>; 8] = [
+    ("version", |form, number| form.version = number as u32),
+    ("kind", |form, number| form.kind = number as u32),
+    ("sender", |form, number| form.sender = number as u32),
+    ("sequence", |form, number| form.sequence = number),
+    ("counter", |form, number| form.counter = number as u32),
+    ("p", |form, number| form.p = number),
+    ("start", |form, number| form.start = number as u32),
+    ("len", |form, number| form.len = number as usize),
+];
+
+pub const ENTRY_FIELDS: [Set<Entry>; 3] = [
+    ("entry card", |entry, number| entry.card = number as u32),
+    ("entry p", |entry, number| entry.p = number),
+    ("entry c", |entry, number| entry.c = number),
+];
+
+/// The header's struct for a message: what its kind does not use is 0.
+pub fn form_of(message: &Message) -> library::Message {
+    let Message { sender, sequence, counter, body } = *message;
+    let mut form =
+        library::Message { version: VERSION, sender, sequence, counter, ..Default::default() };
+    match body {
+        Body::Increment { p, start } => {
+            form.kind = KIND_INCREMENT;
+            form.p = p;
+            form.start = u32::from(start);
+        }
+        Body::Clear(entries) => {
+            let list = entries.as_slice();
+            form.kind = KIND_CLEAR;
+            form.len = list.len();
+            form.entries[..list.len()].copy_from_slice(list);
+        }
+    }
+    form
+}
+
+/// The message that a struct is the one form of, its numbers in range or not.
+fn message_of(form: &library::Message) -> Option<Message> {
+    let body = match form.kind {
+        KIND_INCREMENT if form.start <= 1 => Body::Increment { p: form.p, start: form.start == 1 },
+        KIND_CLEAR if form.len <= MAX_CARDS => {
+            let mut entries = Entries::new();
+            form.entries[..form.len].iter().for_each(|entry| entries.push(*entry));
+            Body::Clear(entries)
+        }
+        _ => return None,
+    };
+    let library::Message { sender, sequence, counter, .. } = *form;
+    let message = Message { sender, sequence, counter, body };
+    (form_of(&message) == *form).then_some(message)
+}
+
+/// What the library answers where the reference reads this.
+pub fn reading(message: Option<Message>) -> MessageReading {
+    match message {
+        Some(message) => MessageReading { number: 0, message: form_of(&message) },
+        None => MessageReading { number: UNREADABLE, ..Default::default() },
+    }
+}
+
+/// The reference's writing of the header's struct.
+fn write(form: &library::Message, out: &mut [u8]) -> Written {
+    let answer = match message_of(form) {
+        Some(message) => message::write(&message, out),
+        None => Err(UNREADABLE),
+    };
+    match answer {
+        Ok(length) => Written { number: 0, length },
+        Err(number) => Written { number, length: 0 },
+    }
+}
+
+/// `cases` messages: each read as bytes and written as a struct, either damaged or not.
+pub fn random_messages(seed: u64, cases: u64) -> Tally {
+    let mut tally = Tally::default();
+    for case in 0..cases {
+        let mut random = Random::case(seed, case);
+        let place = || format!("seed {seed} case {case}");
+        let bytes = bytes(&mut random);
+        tally.note("read_message", compare_read(&bytes, &place));
+        let message = generate::message(&mut random);
+        let mut form = form_of(&message);
+        for _ in 0..random.pick(&[0, 0, 1, 1, 2, 3]) {
+            damage_form(&mut random, &mut form);
+        }
+        let content = room(&mut random, message.length());
+        tally.note("write_message", compare_write(form, &content, &place));
+    }
+    tally
+}
+
+/// An increment and every length of clear, each of its fields at every edge; gives what each
+/// field was answered.
+pub fn every_field_at_every_edge() -> Tally {
+    let mut tally = Tally::default();
+    let content = [0xee; LONGEST];
+    for base in bases() {
+        for number in generate::EDGES {
+            for (name, set) in FIELDS {
+                let mut form = base;
+                set(&mut form, number);
+                let place = || format!("{name} {number} in {base:?}");
+                tally.note(name, compare_write(form, &content, &place));
+            }
+            for at in 0..MAX_CARDS {
+                for (name, set) in ENTRY_FIELDS {
+                    let mut form = base;
+                    set(&mut form.entries[at], number);
+                    let place = || format!("{name} {number} at {at} in {base:?}");
+                    tally.note(name, compare_write(form, &content, &place));
+                }
+            }
+        }
+    }
+    tally
+}
+
+fn bases() -> Vec<library::Message> {
+    let header = library::Message { version: VERSION, sequence: 9, ..Default::default() };
+    let mut list = vec![library::Message { kind: KIND_INCREMENT, p: 7, ..header }];
+    for len in 0..=MAX_CARDS {
+        let mut clear = library::Message { kind: KIND_CLEAR, len, ..header };
+        for (card, entry) in clear.entries[..len].iter_mut().enumerate() {
+            *entry = Entry { card: card as u32, p: 2, c: 17 };
+        }
+        list.push(clear);
+    }
+    list
+}
+
+fn compare_read(bytes: &[u8], place: Place) -> u64 {
+    let lent = Guarded::new(bytes);
+    let theirs = library::read_message(lent.get());
+    assert_eq!(reading(message::read(bytes)), theirs, "{bytes:?}: {}", place());
+    assert_eq!(lent, Guarded::new(bytes), "reading wrote: {}", place());
+    if theirs.number == 0 {
+        let mut out = [0; LONGEST];
+        let written = library::write_message(theirs.message, &mut out);
+        assert_eq!(written, Written { number: 0, length: bytes.len() }, "{}", place());
+        assert_eq!(&out[..written.length], bytes, "{}", place());
+    }
+    theirs.number
+}
+
+fn compare_write(form: library::Message, content: &[u8], place: Place) -> u64 {
+    let (mut our_out, mut their_out) = (Guarded::new(content), Guarded::new(content));
+    let ours = write(&form, our_out.get_mut());
+    let theirs = library::write_message(form, their_out.get_mut());
+    assert_eq!(ours, theirs, "{form:?}: {}", place());
+    assert_eq!(our_out, their_out, "{form:?}: {}", place());
+    let (bytes, past) = their_out.get().split_at(theirs.length);
+    assert_eq!(past, &content[theirs.length..], "bytes past the message: {}", place());
+    if theirs.number == 0 {
+        let read = library::read_message(bytes);
+        assert_eq!(read, MessageReading { number: 0, message: form }, "{}", place());
+    }
+    theirs.number
+}
+
+/// The bytes of a message, damaged or not, or any bytes.
+fn bytes(random: &mut Random) -> Vec<u8> {
+    if random.percent(5) {
+        let len = random.below(LONGEST as u64 + 20) as usize;
+        return random.bytes(len);
+    }
+    let mut out = [0; LONGEST];
+    let length = message::write(&generate::message(random), &mut out).expect("in range");
+    let mut bytes = out[..length].to_vec();
+    for _ in 0..random.pick(&[0, 1, 1, 2]) {
+        generate::damage_bytes(random, &mut bytes);
+    }
+    bytes
+}
+
+/// One wound: a field, one of any entry, two entries exchanged, or one entry more or less.
+fn damage_form(random: &mut Random, form: &mut library::Message) {
+    let number = match random.below(3) {
+        0 => random.word(),
+        1 => random.pick(&generate::EDGES),
+        _ => random.below(4),
+    };
+    let at = random.below(MAX_CARDS as u64) as usize;
+    match random.below(8) {
+        0..=2 => random.pick(&FIELDS).1(form, number),
+        3..=5 => random.pick(&ENTRY_FIELDS).1(&mut form.entries[at], number),
+        6 => form.entries.swap(at, random.below(MAX_CARDS as u64) as usize),
+        _ => form.len = form.len.wrapping_add(random.pick(&[1, usize::MAX])),
+    }
+}
+
+/// Output for a message of `needed` bytes: too short by one, exact, longer by one, or of any length.
+fn room(random: &mut Random, needed: usize) -> Vec<u8> {
+    let any = random.below(LONGEST as u64 + 60) as usize;
+    let len = random.pick(&[needed, needed, needed - 1, needed + 1, 0, any, any]);
+    random.bytes(len)
+}
