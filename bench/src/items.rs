@@ -5,6 +5,7 @@ use std::hint::black_box;
 use std::ops::Range;
 
 use yelansub_reference::chassis::{self, Buffers, Step, STEP_BYTES};
+use yelansub_reference::differential::messages::form_of;
 use yelansub_reference::library;
 use yelansub_reference::message::{self, Body, Entries, Entry, Message, LONGEST};
 use yelansub_reference::random::Random;
@@ -23,9 +24,10 @@ pub struct State {
     words: Vec<u64>,
     kept: Vec<u64>,
     out: Vec<u8>,
-    /// One message for each counter, as bytes and as read.
+    /// One message for each counter, as bytes and as each side holds it.
     bytes: Vec<Vec<u8>>,
     messages: Vec<Message>,
+    forms: Vec<library::Message>,
     entries: Vec<Vec<rpcgen::Entry>>,
     logs: Vec<u8>,
     /// A long list of steps, and the part of it that the next run takes.
@@ -94,9 +96,7 @@ pub fn calls() -> Vec<Item> {
     ]
 }
 
-/// The library has no export for a message alone. Reading is `waiting` for the first message of
-/// a log that is this message; writing is the whole count or clear, row check and effect
-/// included. An export of the codec alone would stand as one more side of these items.
+/// A message alone, from and to bytes.
 pub fn messages() -> Vec<Item> {
     let read = |name, make| Item {
         name,
@@ -110,13 +110,13 @@ pub fn messages() -> Vec<Item> {
             ("rpcgen, allocating", |s: &mut State| each(s, rpcgen_read_allocating)),
         ],
     };
-    let write = |name, make, library| Item {
+    let write = |name, make| Item {
         name,
         calls: CALLS,
         long: false,
         make,
         sides: vec![
-            ("library", library),
+            ("library", |s: &mut State| each(s, library_write_message)),
             ("reference", |s: &mut State| each(s, reference_write_message)),
             ("rpcgen", |s: &mut State| each(s, rpcgen_write)),
         ],
@@ -124,8 +124,8 @@ pub fn messages() -> Vec<Item> {
     vec![
         read("message read: increment", increments as fn() -> State),
         read("message read: clear of 16", clears),
-        write("count against writing an increment", increments, |s| each(s, library_count)),
-        write("clear against writing a clear of 16", clears, |s| each(s, library_clear)),
+        write("message write: increment", increments),
+        write("message write: clear of 16", clears),
     ]
 }
 
@@ -163,6 +163,7 @@ fn blank() -> State {
         out: vec![0; LONGEST],
         bytes: Vec::new(),
         messages: Vec::new(),
+        forms: Vec::new(),
         entries: Vec::new(),
         logs: Vec::new(),
         steps: Vec::new(),
@@ -202,6 +203,7 @@ fn with_messages(body: fn(u64) -> Body) -> State {
         state.bytes.push(out[..length].to_vec());
         state.logs.extend(&out[..length]);
         state.messages.push(message);
+        state.forms.push(form_of(&message));
         state.entries.push(match message.body {
             Body::Increment { .. } => Vec::new(),
             Body::Clear(entries) => {
@@ -316,7 +318,7 @@ fn reference_waiting(s: &mut State) {
 }
 
 fn library_read_message(s: &mut State, counter: usize) {
-    black_box(library::waiting(&s.bytes[counter], 1));
+    black_box(library::read_message(&s.bytes[counter]));
 }
 
 #[inline(never)]
@@ -330,6 +332,10 @@ fn rpcgen_read(s: &mut State, counter: usize) {
 
 fn rpcgen_read_allocating(s: &mut State, counter: usize) {
     black_box(rpcgen::read_allocating(&s.bytes[counter]));
+}
+
+fn library_write_message(s: &mut State, counter: usize) {
+    black_box(library::write_message(s.forms[counter], &mut s.out));
 }
 
 #[inline(never)]
@@ -368,12 +374,20 @@ pub fn outcome(state: &State) -> (&[u64], &[u8], &[u64]) {
     (&state.words, &state.logs, &state.answers)
 }
 
-/// rpcgen's bytes for every message of the state are the reference's.
-pub fn rpcgen_agrees(state: &mut State) -> bool {
+/// The library and rpcgen write every message of the state as the reference's bytes, and read it
+/// from them.
+pub fn messages_agree(state: &mut State) -> bool {
     (0..state.messages.len()).all(|counter| {
-        rpcgen_write(state, counter);
+        let written = [library_write_message, rpcgen_write].iter().all(|write| {
+            state.out.fill(0);
+            write(state, counter);
+            let bytes = &state.bytes[counter];
+            state.out[..bytes.len()] == bytes[..]
+        });
         let bytes = &state.bytes[counter];
-        state.out[..bytes.len()] == bytes[..]
+        let read = library::MessageReading { number: 0, message: state.forms[counter] };
+        written
+            && library::read_message(bytes) == read
             && rpcgen::read(bytes) == state.messages[counter].sequence
     })
 }

@@ -53,7 +53,7 @@ fn rounds_of(run: &Item) -> u32 {
     (2_000_000 / run.calls.max(1_000)) as u32
 }
 
-/// All sides that change the state leave it the same, and rpcgen writes the same bytes.
+/// All sides that change the state leave it the same, and all read and write the same messages.
 fn check() {
     for item in items::calls().iter().chain(&items::runs()) {
         let mut states: Vec<State> = item.sides.iter().map(|_| (item.make)()).collect();
@@ -64,7 +64,7 @@ fn check() {
         assert!(alike, "{}: the sides differ", item.name);
     }
     for item in items::messages() {
-        assert!(items::rpcgen_agrees(&mut (item.make)()), "{}: rpcgen differs", item.name);
+        assert!(items::messages_agree(&mut (item.make)()), "{}: the sides differ", item.name);
     }
 }
 
