@@ -153,8 +153,6 @@ struct yelansub_clear_entry {
  * A message held whole. An increment uses p and start, a clear len and the first
  * len entries; all that its kind does not use is 0, the entries from len on
  * included. So a message has one form.
- * (rpcgen's header for message.x has another struct of this name: a file
- * includes one of the two.)
  */
 struct yelansub_message {
     uint32_t version;  /* YELANSUB_MESSAGE_VERSION */

@@ -4,17 +4,17 @@
 
 #include "message.h"
 
-static size_t write_message(yelansub_message *message, uint8_t *out, size_t len)
+static size_t write_message(yelansub_wire_message *message, uint8_t *out, size_t len)
 {
     XDR xdr;
     xdrmem_create(&xdr, (char *)out, (u_int)len, XDR_ENCODE);
-    return xdr_yelansub_message(&xdr, message) ? xdr_getpos(&xdr) : 0;
+    return xdr_yelansub_wire_message(&xdr, message) ? xdr_getpos(&xdr) : 0;
 }
 
 size_t rpcgen_write_increment(uint32_t sender, uint64_t sequence, uint32_t counter, uint64_t p,
                               uint32_t start, uint8_t *out, size_t len)
 {
-    yelansub_message message = {.message_version = 1};
+    yelansub_wire_message message = {.message_version = 1};
     message.body.kind = YELANSUB_INCREMENT;
     message.body.yelansub_body_u.increment =
         (yelansub_increment){{sender, sequence, counter}, p, (bool_t)start};
@@ -24,7 +24,7 @@ size_t rpcgen_write_increment(uint32_t sender, uint64_t sequence, uint32_t count
 size_t rpcgen_write_clear(uint32_t sender, uint64_t sequence, uint32_t counter,
                           yelansub_entry *entries, size_t count, uint8_t *out, size_t len)
 {
-    yelansub_message message = {.message_version = 1};
+    yelansub_wire_message message = {.message_version = 1};
     message.body.kind = YELANSUB_CLEAR;
     message.body.yelansub_body_u.clearing =
         (yelansub_clearing){{sender, sequence, counter}, {(u_int)count, entries}};
@@ -35,13 +35,13 @@ size_t rpcgen_write_clear(uint32_t sender, uint64_t sequence, uint32_t counter,
 uint64_t rpcgen_read(const uint8_t *bytes, size_t len)
 {
     yelansub_entry entries[16];
-    yelansub_message message;
+    yelansub_wire_message message;
     memset(&message, 0, sizeof message);
     /* Where the message is an increment, p and start are read over this. */
     message.body.yelansub_body_u.clearing.entries.entries_val = entries;
     XDR xdr;
     xdrmem_create(&xdr, (char *)bytes, (u_int)len, XDR_DECODE);
-    if (!xdr_yelansub_message(&xdr, &message) || xdr_getpos(&xdr) != len)
+    if (!xdr_yelansub_wire_message(&xdr, &message) || xdr_getpos(&xdr) != len)
         return 0;
     return message.body.yelansub_body_u.increment.header.sequence;
 }
@@ -49,12 +49,12 @@ uint64_t rpcgen_read(const uint8_t *bytes, size_t len)
 /* Reads as rpcgen's manual has it: the array allocated by XDR and freed after use. */
 uint64_t rpcgen_read_allocating(const uint8_t *bytes, size_t len)
 {
-    yelansub_message message;
+    yelansub_wire_message message;
     memset(&message, 0, sizeof message);
     XDR xdr;
     xdrmem_create(&xdr, (char *)bytes, (u_int)len, XDR_DECODE);
-    bool_t well = xdr_yelansub_message(&xdr, &message) && xdr_getpos(&xdr) == len;
+    bool_t well = xdr_yelansub_wire_message(&xdr, &message) && xdr_getpos(&xdr) == len;
     uint64_t sequence = message.body.yelansub_body_u.increment.header.sequence;
-    xdr_free((xdrproc_t)xdr_yelansub_message, (char *)&message);
+    xdr_free((xdrproc_t)xdr_yelansub_wire_message, (char *)&message);
     return well ? sequence : 0;
 }

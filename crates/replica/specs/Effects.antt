@@ -6,6 +6,7 @@ use mathlib.Core.List.{List, [], _∷_, _++_, append-nil}
 use native.Mathlib.Numerals.{add-one}
 use native.Mathlib.Omega.{arith}
 use mir.Val.{boolByte}
+use borrow.Author.Tests.{lt-ltb}
 use lib.ListN.{length, getD, set, drop, replicate, length-append, drop-of-length-le}
 use lib.Seq.{set-getD, drop-cons, set-append-seam, append-snoc}
 use Rattle.protocol.specs.declared.Entry.{Entry}
@@ -17,7 +18,6 @@ use Rattle.wire.specs.Message.{no-entry}
 use Rattle.replica_model.specs.Layout.{head, at-C, at-N, C-of, N-of, entry-of, set-C, set-N, set-entry}
 use Rattle.replica_model.specs.Store.{layout, C-entry, three-length}
 use Rattle.replica.specs.Rows.{Row, row-set-entry}
-use Rattle.replica.specs.declared.effect.Held.{Held}
 
 -- the largest that a word can hold
 abbrev pub last-word : ℕ
@@ -98,53 +98,39 @@ module _ (r k : ℕ) where
 
 -- ---- what a clear sends: the present entries, and zeros past them in an array of sixteen
 
-abbrev pub sent-entry : ℕ → Entry → ClearEntry
-sent-entry j e = cond (present e) (record { card = j; p = e .p; c = e .c }) no-entry
-
 abbrev pub padded : List ClearEntry → List ClearEntry
 padded es = es ++ replicate (16 - length es) no-entry
-
-abbrev pub held : List ClearEntry → Held
-held es = record { len = length es; entries = padded es }
 
 -- a test as a number
 pub flag-is : (t : Bool) → boolByte t ≡ cond t 1 0
 flag-is true = refl
 flag-is false = refl
 
-pub flag-small : (t : Bool) → cond t 1 0 ≤ 1
-flag-small true = omega arith
-flag-small false = omega arith
+one-more : (t : Bool) (es : List ClearEntry) (e : ClearEntry) (j : ℕ) → length es ≤ j → length (es ++ cond t (e ∷ []) []) ≤ suc j
+one-more true es e j few = omega (arith, length-append es (e ∷ []))
+one-more false es e j few = omega (arith, length-append es [])
 
-one-more : (t : Bool) (es : List ClearEntry) (e : ClearEntry) → length (es ++ cond t (e ∷ []) []) ≡ length es + cond t 1 0
-one-more true es e = length-append es (e ∷ [])
-one-more false es e = length-append es []
-
--- the padding gives up its first place, or keeps it
-first-set : (es : List ClearEntry) (e : ClearEntry) → length es < 16 → set (padded es) (length es) e ≡ es ++ e ∷ replicate (15 - length es) no-entry
-first-set es e l =
+-- the padding gives up its first place
+pub padded-next : (es : List ClearEntry) (e : ClearEntry) → length es < 16 → set (padded es) (length es) e ≡ padded (es ++ e ∷ [])
+padded-next es e l =
     let more : 16 - length es ≡ suc (15 - length es) = omega arith in
-    rw more (set-append-seam es no-entry (replicate (15 - length es) no-entry) e)
-
-one-set : (t : Bool) (es : List ClearEntry) (e : ClearEntry) → length es < 16 → set (padded es) (length es) (cond t e no-entry) ≡ padded (es ++ cond t (e ∷ []) [])
-one-set true es e l =
     let less : 16 - (length es + 1) ≡ 15 - length es = omega arith in
-    first-set es e l ∙ rw (length-append es (e ∷ []), less, append-snoc es e (replicate (15 - length es) no-entry))
-one-set false es e l =
-    let more : 16 - length es ≡ suc (15 - length es) = omega arith in
-    first-set es no-entry l ∙ rw (append-nil es, more)
+    rw (more, set-append-seam es no-entry (replicate (15 - length es) no-entry) e, length-append es (e ∷ []), less, append-snoc es e (replicate (15 - length es) no-entry))
+
+positive : (n : ℕ) → (n ≡ 0 → ⊥) → 0 < n
+positive zero some = absurd (some refl)
+positive (suc n) some = omega arith
 
 module _ (row : ℕ → Entry) where
-  pub present-length : (j : ℕ) → length (present-entries (suc j) row) ≡ length (present-entries j row) + cond (present (row j)) 1 0
+  pub absent-turn : (j : ℕ) → row j .p ≡ 0 → present-entries (j + 1) row ≡ present-entries j row
   unfolding present-entries
-  present-length j = one-more (present (row j)) (present-entries j row) (record { card = j; p = row j .p; c = row j .c })
+  absent-turn j none = rw (add-one j, none) (append-nil (present-entries j row))
+
+  pub present-turn : (j : ℕ) → (row j .p ≡ 0 → ⊥) → present-entries (j + 1) row ≡ present-entries j row ++ record { card = j; p = row j .p; c = row j .c } ∷ []
+  unfolding present-entries
+  present-turn j some = rw (add-one j, lt-ltb 0 (row j .p) (positive (row j .p) some))
 
   pub present-few : (j : ℕ) → length (present-entries j row) ≤ j
   unfolding present-entries
   present-few zero = omega arith
-  present-few (suc j) = omega (arith, present-length j, flag-small (present (row j)), present-few j)
-
-  pub padded-turn : (j : ℕ) → length (present-entries j row) < 16
-      → set (padded (present-entries j row)) (length (present-entries j row)) (sent-entry j (row j)) ≡ padded (present-entries (suc j) row)
-  unfolding present-entries
-  padded-turn j l = one-set (present (row j)) (present-entries j row) (record { card = j; p = row j .p; c = row j .c }) l
+  present-few (suc j) = one-more (present (row j)) (present-entries j row) _ j (present-few j)

@@ -15,6 +15,7 @@ use Rattle.protocol.specs.declared.ClearEntry.{ClearEntry}
 use Rattle.protocol.specs.Entry.{present, count-starts, count-p}
 use Rattle.protocol.specs.Chassis.{increment, clearing, count-message, clear-message, present-entries}
 use Rattle.protocol.specs.Stores.{CardsBelow, shown, taken-words}
+use Rattle.wire.specs.declared.Message as wire
 use Rattle.wire.specs.Message as form
 use Rattle.wire.specs.Message.{increment-message, message-bytes, no-entry, over}
 use Rattle.replica_model.specs.declared.Sent.{Sent}
@@ -23,8 +24,7 @@ use Rattle.replica_model.specs.Store.{layout}
 use Rattle.replica_model.specs.Calls.{check, right, row-well-formed, state, SendOutcome, not-sent, sent, sending}
 use Rattle.replica_model.specs.RowLaws.{right-facts}
 use Rattle.replica.specs.Rows.{Row, row, Card, card-facts}
-use Rattle.replica.specs.Effects.{Receives, flag-is, held, present-few}
-use Rattle.replica.specs.declared.effect.Held.{Held}
+use Rattle.replica.specs.Effects.{Receives, flag-is, present-few}
 
 -- a call that declines: "number, zeros"
 abbrev pub no-sent : ℕ → Sent
@@ -152,14 +152,13 @@ module _ (b out : List ℕ) (r q : ℕ) (h : Sends b r q) where
     count-sent e known p start found counted next starts l written applied =
         rw (count-sends b q, le-leb 36 (length out) l, written, applied, flag-is start, starts, next, counted, found, seen, mine, h .row .first)
 
-    pub clear-sent : (long : ℕ) (es : Held) → es ≡ held (present-entries r (entry-of r b q)) → long ≡ 28 + 20 * es .len → long ≤ length out
-        → out₁ ≡ over (message-bytes (record { version = 1; kind = 2; sender = own; sequence = messages + 1; counter = q; p = 0; start = 0; len = es .len; entries = es .entries })) out
-        → words ≡ taken-words r (counters b) (layout r (counters b)) own (clearing q (take (es .len) (es .entries))) b
+    pub clear-sent : (long : ℕ) (m : wire.Message) → m ≡ form.clear-message own (messages + 1) q (present-entries r (entry-of r b q)) → long ≡ 28 + 20 * m .len → long ≤ length out
+        → out₁ ≡ over (message-bytes m) out → words ≡ taken-words r (counters b) (layout r (counters b)) own (clearing q (take (m .len) (m .entries))) b
         → was-sent (messages + 1) long words out₁ ≡ sent b out (clear-message (cards b) q (state b))
     unfolding sent form.clear-message
-    clear-sent long es found e l written applied =
+    clear-sent long m made e l written applied =
         let all = present-entries r (entry-of r b q) in
-        let room : 28 + 20 * length all ≤ length out = rw (e, found) at l in
+        let room : 28 + 20 * length all ≤ length out = rw (e, made) at l in
         rw (
           clear-sends b q,
           ← (h .row .first),
@@ -167,15 +166,16 @@ module _ (b out : List ℕ) (r q : ℕ) (h : Sends b r q) where
           written,
           applied,
           e,
-          found,
+          made,
           take-append-seam all (replicate (16 - length all) no-entry),
           seen,
           mine,
         )
 
--- the present entries are at most sixteen, of cards below r
-pub held-below : (b : List ℕ) (r q : ℕ) → Sends b r q → (es : Held) → es ≡ held (present-entries r (entry-of r b q))
-    → (es .len ≤ 16) × CardsBelow r (take (es .len) (es .entries))
-held-below b r q h es found =
+-- it is a clear, of at most sixteen entries, of cards below r
+pub made-clear : (b : List ℕ) (r q own sequence : ℕ) → Sends b r q → (m : wire.Message) → m ≡ form.clear-message own sequence q (present-entries r (entry-of r b q))
+    → (m .kind ≡ 2) × (m .len ≡ length (present-entries r (entry-of r b q))) × (m .len ≤ 16) × CardsBelow r (take (m .len) (m .entries))
+unfolding form.clear-message
+made-clear b r q own sequence h m made =
     let all = present-entries r (entry-of r b q) in
-    rw (found, take-append-seam all (replicate (16 - length all) no-entry)) (omega (arith, present-few (entry-of r b q) r), present-below (entry-of r b q) r)
+    rw (made, take-append-seam all (replicate (16 - length all) no-entry)) (refl, refl, omega (arith, present-few (entry-of r b q) r), present-below (entry-of r b q) r)

@@ -2,6 +2,7 @@
 use crate::effect;
 use crate::sending;
 use crate::words;
+use protocol::ClearEntry;
 use replica_model::Sent;
 use wire::Message;
 ghost use mathlib.Core.Path.{_≡_};
@@ -10,21 +11,15 @@ ghost use Rattle.replica_model.specs.Layout.{cards};
 ghost use Rattle.replica_model.specs.Calls.{SendOutcome, state, sent, clear-on};
 ghost use Rattle.replica.specs.SendLaws.{Sends};
 
-// The call where every check but the last has passed. Nothing is written before that one.
+// The call where every check but the last has passed. Nothing is written before that one. The message, of every present entry (line 29), is made
+// here and not in a function that returns it, which would copy it.
 fn send_clear(words: &mut [u64], r: usize, q: usize, out: &mut [u8]) -> Sent
     requires { ⌜ Sends (now words) r q ⌝ }
     ensures { λ a. ⌜ _≡_ {A = SendOutcome} (record { answer = a; words = now (words .exit); out = now (out .exit) }) (sent (now (words .entry)) (now (out .entry)) (clear-message (cards (now (words .entry))) q (state (now (words .entry))))) ⌝ }
 {
-    let held = effect::present_entries(words, r, q);
-    let len = held.len;
-    let length = wire::encode::length_of(wire::CLEAR, len);
-    if out.len() < length {
-        return sending::refused(protocol::OUTPUT_TOO_SHORT);
-    }
     let own = words::own_card(words);
     let sequence = words::messages_at(words, r, own) + 1;
-    let entries = held.entries;
-    let m = Message {
+    let mut m = Message {
         version: wire::VERSION,
         kind: wire::CLEAR,
         sender: own as u32,
@@ -32,11 +27,32 @@ fn send_clear(words: &mut [u64], r: usize, q: usize, out: &mut [u8]) -> Sent
         counter: q as u32,
         p: 0,
         start: 0,
-        len,
-        entries,
+        len: 0,
+        entries: [effect::NO_ENTRY; 16],
     };
+    let mut len: usize = 0;
+    let mut j: usize = 0;
+    while j < r {
+        let e = words::entry_at(words, r, q, j);
+        let card = j as u32;
+        j += 1;
+        if e.p == 0 {
+            continue;
+        }
+        m.entries[len] = ClearEntry {
+            card,
+            p: e.p,
+            c: e.c,
+        };
+        len += 1;
+    }
+    m.len = len;
+    let length = wire::encode::length_of(wire::CLEAR, len);
+    if out.len() < length {
+        return sending::refused(protocol::OUTPUT_TOO_SHORT);
+    }
     wire::encode::put_clear(m, out);
-    effect::apply_clear(words, r, q, own, entries, len);
+    effect::apply_clear(words, r, q, own, m);
     Sent {
         number: 0,
         sequence,

@@ -3,31 +3,26 @@
 use crate::words;
 use protocol::ClearEntry;
 use protocol::Entry;
+use wire::Message;
 ghost use mathlib.Core.Path.{_≡_};
 ghost use mathlib.Core.Bool.{cond, not, _||_};
 ghost use Prim.Native.Nat.{max, _-_, _+_, _≤_, _<_};
 ghost use lib.ListN.{length, take};
 ghost use Rattle.protocol.specs.Entry.{present, larger, removeIf, finished, settled, incremented, cleared};
-ghost use Rattle.protocol.specs.Chassis.{increment, clearing, present-entries};
+ghost use Rattle.protocol.specs.Chassis.{increment, clearing};
 ghost use Rattle.protocol.specs.Stores.{CardsBelow, taken-words};
-ghost use Rattle.replica_model.specs.Layout.{counters, at-N, C-of, N-of, entry-of};
+ghost use Rattle.replica_model.specs.Layout.{counters, at-N, C-of, N-of};
 ghost use Rattle.replica_model.specs.Store.{layout};
 ghost use Rattle.replica.specs.Rows.{Row};
-ghost use Rattle.replica.specs.Effects.{last-word, Receives, received, entry-cleared, sent-entry, held};
+ghost use Rattle.replica.specs.Effects.{last-word, Receives, received, entry-cleared};
 
 const ABSENT: Entry = Entry { p: 0, n: 0, c: 0 };
 
-const NO_ENTRY: ClearEntry = ClearEntry {
+pub(crate) const NO_ENTRY: ClearEntry = ClearEntry {
     card: 0,
     p: 0,
     c: 0,
 };
-
-// The entries of a clear: the first `len`, and zeros past them.
-pub struct Held {
-    pub len: usize,
-    pub entries: [ClearEntry; 16],
-}
 
 fn larger(x: u64, y: u64) -> u64
     ensures { λ a. ⌜ a ≡ max x y ⌝ }
@@ -133,60 +128,17 @@ fn clear_entry(b: &mut [u64], r: usize, q: usize, entry: ClearEntry)
 }
 
 // Lines 30 to 38, for a clear of card j on counter q. It brings no increment, so C stays.
-pub(crate) fn apply_clear(
-    b: &mut [u64],
-    r: usize,
-    q: usize,
-    j: usize,
-    entries: [ClearEntry; 16],
-    len: usize,
-)
-    requires { ⌜ Receives (now b) r q j × (len ≤ 16) × CardsBelow r (take len entries) ⌝ }
-    ensures { λ _. ⌜ now (b .exit) ≡ taken-words r (counters (now (b .entry))) (layout r (counters (now (b .entry)))) j (clearing q (take len entries)) (now (b .entry)) ⌝ }
+pub(crate) fn apply_clear(b: &mut [u64], r: usize, q: usize, j: usize, m: Message)
+    requires { ⌜ Receives (now b) r q j × (m .len ≤ 16) × CardsBelow r (take (m .len) (m .entries)) ⌝ }
+    ensures { λ _. ⌜ now (b .exit) ≡ taken-words r (counters (now (b .entry))) (layout r (counters (now (b .entry)))) j (clearing q (take (m .len) (m .entries))) (now (b .entry)) ⌝ }
 {
+    let len = m.len;
     let known = words::increments_at(b, j);
     let mut i: usize = 0;
     while i < len {
-        let entry = entries[i];
+        let entry = m.entries[i];
         clear_entry(b, r, q, entry);
         i += 1;
     }
     receive(b, r, j, known, 0);
-}
-
-fn sent_entry(j: usize, e: Entry) -> ClearEntry
-    requires { ⌜ j < 16 ⌝ }
-    ensures { λ a. ⌜ a ≡ sent-entry j e ⌝ }
-{
-    if 0 < e.p {
-        return ClearEntry {
-            card: j as u32,
-            p: e.p,
-            c: e.c,
-        };
-    }
-    NO_ENTRY
-}
-
-fn sent_count(e: Entry) -> usize
-    ensures { λ a. ⌜ a ≡ cond (present e) 1 0 ⌝ }
-{
-    (0 < e.p) as usize
-}
-
-// Line 29: every present entry. An absent one is stored too, as the zeros that stand there already, so that the loop has no branch.
-pub(crate) fn present_entries(b: &[u64], r: usize, q: usize) -> Held
-    requires { ⌜ Row (now b) r q ⌝ }
-    ensures { λ a. ⌜ a ≡ held (present-entries r (entry-of r (now (b .entry)) q)) ⌝ }
-{
-    let mut entries = [NO_ENTRY; 16];
-    let mut len: usize = 0;
-    let mut j: usize = 0;
-    while j < r {
-        let e = words::entry_at(b, r, q, j);
-        entries[len] = sent_entry(j, e);
-        len += sent_count(e);
-        j += 1;
-    }
-    Held { len, entries }
 }

@@ -4,42 +4,20 @@ use crate::words;
 use protocol::ClearEntry;
 use replica_model::Taken;
 use wire::Message;
+use wire::decode;
+use wire::reader;
+use wire::reader::Header;
+use wire::reader::Increment;
 ghost use mathlib.Core.Path.{_≡_};
-ghost use mathlib.Core.Bool.{true, not};
-ghost use Prim.Native.Nat.{_≤_, _<_};
+ghost use mathlib.Core.Bool.{true, cond, not};
+ghost use Prim.Native.Nat.{_≤_};
 ghost use lib.Dec.{ltb};
-ghost use lib.ListN.{take};
 ghost use Rattle.protocol.specs.Limits.{MAX};
-ghost use Rattle.protocol.specs.Stores.{taken-words};
-ghost use Rattle.replica_model.specs.Layout.{cards, counters};
-ghost use Rattle.replica_model.specs.Store.{layout};
-ghost use Rattle.replica_model.specs.Calls.{right, content, all-entries, cards-known, increment-implausible, plausible, TakeOutcome, taking, take-on};
-ghost use Rattle.replica.specs.Taking.{no-taken, Readable, refusal, entry-test, Ready, Known};
-
-// Does every entry name a card below r?
-fn are_cards_below(entries: [ClearEntry; 16], len: usize, r: usize) -> bool
-    requires { ⌜ len ≤ 16 ⌝ }
-    ensures { λ a. ⌜ a ≡ all-entries (λ e. ltb (e .card) r) (take len entries) ⌝ }
-{
-    let mut below = true;
-    let mut i: usize = 0;
-    while i < len {
-        let e = entries[i];
-        below = below & ((e.card as usize) < r);
-        i += 1;
-    }
-    below
-}
-
-fn are_cards_known(b: &[u64], r: usize, m: Message) -> bool
-    requires { ⌜ Ready (now b) r m ⌝ }
-    ensures { λ a. ⌜ a ≡ cards-known (now (b .entry)) m ⌝ }
-{
-    let own = words::own_card(b);
-    let sender = m.sender as usize;
-    let entries = m.entries;
-    (sender < r) & (sender != own) & are_cards_below(entries, m.len, r)
-}
+ghost use Rattle.wire.specs.Message.{increment-message, message-at, reads};
+ghost use Rattle.wire.specs.Parts.{header-at};
+ghost use Rattle.replica_model.specs.Layout.{cards, C-of};
+ghost use Rattle.replica_model.specs.Calls.{right, increment-implausible, TakeOutcome, taking, take-on};
+ghost use Rattle.replica.specs.Taking.{no-taken, refusal, entry-test};
 
 // `known` is C of the sender.
 fn is_increment_plausible(known: u64, p: u64, start: bool) -> bool
@@ -50,78 +28,29 @@ fn is_increment_plausible(known: u64, p: u64, start: bool) -> bool
     !((next < p) | (start & (p != next)) | (!start & (p == 1)))
 }
 
-// The entries for the receiving card and for the sender, of which C is `ours` and `theirs`.
-fn are_entries_plausible(
-    entries: [ClearEntry; 16],
-    len: usize,
-    own: usize,
-    ours: u64,
-    sender: usize,
-    theirs: u64,
-) -> bool
-    requires { ⌜ len ≤ 16 ⌝ }
-    ensures { λ a. ⌜ a ≡ all-entries (entry-test own ours sender theirs) (take len entries) ⌝ }
+fn is_card_below(e: ClearEntry, r: usize) -> bool
+    ensures { λ a. ⌜ a ≡ ltb (e .card) r ⌝ }
 {
-    let mut plausible = true;
-    let mut i: usize = 0;
-    while i < len {
-        let e = entries[i];
-        let card = e.card as usize;
-        plausible = plausible
-            & !(((card == own) & (ours < e.c)) | ((card == sender) & (theirs < e.c)));
-        i += 1;
-    }
-    plausible
+    (e.card as usize) < r
 }
 
-fn is_plausible(b: &[u64], r: usize, m: Message) -> bool
-    requires { ⌜ Ready (now b) r m × (m .sender < r) ⌝ }
-    ensures { λ a. ⌜ a ≡ plausible (now (b .entry)) m ⌝ }
+// `ours` and `theirs` are C of the receiving card and of the sender.
+fn is_entry_plausible(e: ClearEntry, own: usize, ours: u64, sender: usize, theirs: u64) -> bool
+    ensures { λ a. ⌜ a ≡ entry-test own ours sender theirs e ⌝ }
 {
-    let sender = m.sender as usize;
-    let theirs = words::increments_at(b, sender);
-    if m.kind == wire::INCREMENT {
-        return is_increment_plausible(theirs, m.p, m.start == 1);
-    }
-    let own = words::own_card(b);
-    let ours = words::increments_at(b, own);
-    let entries = m.entries;
-    are_entries_plausible(entries, m.len, own, ours, sender, theirs)
+    let card = e.card as usize;
+    !(((card == own) & (ours < e.c)) | ((card == sender) & (theirs < e.c)))
 }
 
-// The checks behind the row's: 0, or the number of the first that fails.
-fn refusal_of(b: &[u64], r: usize, m: Message) -> u64
-    requires { ⌜ Ready (now b) r m ⌝ }
-    ensures { λ a. ⌜ a ≡ refusal (now (b .entry)) m ⌝ }
+// C of a card, 0 where there is no such card.
+fn increments_of(b: &[u64], r: usize, j: usize) -> u64
+    requires { ⌜ (r ≡ cards (now b)) × (right (now b) ≡ true) ⌝ }
+    ensures { λ a. ⌜ a ≡ cond (ltb j r) (C-of (now (b .entry)) j) 0 ⌝ }
 {
-    if !are_cards_known(b, r, m) {
-        return protocol::NO_SUCH_CARD;
+    if j < r {
+        return words::increments_at(b, j);
     }
-    let received = words::messages_at(b, r, m.sender as usize);
-    if m.sequence <= received {
-        return protocol::REPEATED;
-    }
-    if received + 1 < m.sequence {
-        return protocol::EARLY;
-    }
-    if is_plausible(b, r, m) {
-        return 0;
-    }
-    protocol::IMPLAUSIBLE
-}
-
-fn apply(b: &mut [u64], r: usize, m: Message)
-    requires { ⌜ Ready (now b) r m × Known (now b) m ⌝ }
-    ensures { λ _. ⌜ now (b .exit) ≡ taken-words (cards (now (b .entry))) (counters (now (b .entry))) (layout (cards (now (b .entry))) (counters (now (b .entry)))) (m .sender) (content m) (now (b .entry)) ⌝ }
-{
-    let sender = m.sender as usize;
-    let q = m.counter as usize;
-    if m.kind == wire::INCREMENT {
-        effect::apply_increment(b, r, q, sender, m.p, m.start == 1);
-        return;
-    }
-    let entries = m.entries;
-    effect::apply_clear(b, r, q, sender, entries, m.len);
+    0
 }
 
 fn refused(number: u64) -> Taken
@@ -133,42 +62,117 @@ fn refused(number: u64) -> Taken
     }
 }
 
-// A message that reads, to a replica that is right. No word is written before the last check.
-fn take_readable(words: &mut [u64], m: Message) -> Taken
-    requires { ⌜ (right (now words) ≡ true) × Readable m ⌝ }
-    ensures { λ a. ⌜ _≡_ {A = TakeOutcome} (record { answer = a; words = now (words .exit) }) (taking (now (words .entry)) m) ⌝ }
+// The checks that both kinds have, in document 01's order 3, 2, 7, 8, 9: the number of the first that fails, 0 where none does. `known` says
+// whether every entry names a card below r.
+fn refusal_of(b: &[u64], counter: u32, sender: u32, sequence: u64, known: bool) -> u64
+    requires { ⌜ right (now b) ≡ true ⌝ }
+    ensures { λ a. ⌜ a ≡ refusal (now (b .entry)) counter sender sequence known ⌝ }
 {
-    let r = words::cards_of(words);
-    let k = words::counters_of(words);
-    if k <= m.counter as u64 {
-        return refused(protocol::NO_SUCH_COUNTER);
+    if words::counters_of(b) <= counter as u64 {
+        return protocol::NO_SUCH_COUNTER;
     }
-    if !words::is_row_well_formed(words, r, m.counter as usize) {
-        return refused(protocol::NOT_WELL_FORMED);
+    let r = words::cards_of(b);
+    if !words::is_row_well_formed(b, r, counter as usize) {
+        return protocol::NOT_WELL_FORMED;
     }
-    let number = refusal_of(words, r, m);
+    let j = sender as usize;
+    if !((j < r) & (j != words::own_card(b)) & known) {
+        return protocol::NO_SUCH_CARD;
+    }
+    let received = words::messages_at(b, r, j);
+    if sequence <= received {
+        return protocol::REPEATED;
+    }
+    if received + 1 < sequence {
+        return protocol::EARLY;
+    }
+    0
+}
+
+// An increment that reads, to a replica that is right. No word is written before the last check.
+fn take_increment(words: &mut [u64], header: Header, body: Increment) -> Taken
+    requires { ⌜ (right (now words) ≡ true) × (1 ≤ body .p) ⌝ }
+    ensures { λ a. ⌜ _≡_ {A = TakeOutcome} (record { answer = a; words = now (words .exit) }) (taking (now (words .entry)) (increment-message (header .sender) (header .sequence) (header .counter) (body .p) (body .start))) ⌝ }
+{
+    let number = refusal_of(words, header.counter, header.sender, header.sequence, true);
     if number != 0 {
         return refused(number);
     }
-    apply(words, r, m);
+    let sender = header.sender as usize;
+    let start = body.start == 1;
+    let known = words::increments_at(words, sender);
+    if !is_increment_plausible(known, body.p, start) {
+        return refused(protocol::IMPLAUSIBLE);
+    }
+    let r = words::cards_of(words);
+    effect::apply_increment(words, r, header.counter as usize, sender, body.p, start);
     Taken {
         number: 0,
-        sequence: m.sequence,
+        sequence: header.sequence,
     }
 }
 
-// Ruled out: a take that keeps the replica (must-fail/take_keeps_replica), a refusal that has already written a word
-// (must-fail/take_refuses_late).
+// A clear, likewise. The message is held whole, and made and judged in one loop: a function that it is passed to or returned from copies it.
+fn take_clear(words: &mut [u64], message: &[u8], header: Header) -> Taken
+    requires { ⌜ (right (now words) ≡ true) × (reads (now message) ≡ true) × (header ≡ header-at (now message)) × (header .kind ≡ 2) ⌝ }
+    ensures { λ a. ⌜ _≡_ {A = TakeOutcome} (record { answer = a; words = now (words .exit) }) (taking (now (words .entry)) (message-at (now (message .entry)))) ⌝ }
+{
+    let r = words::cards_of(words);
+    let own = words::own_card(words);
+    let sender = header.sender as usize;
+    let ours = increments_of(words, r, own);
+    let theirs = increments_of(words, r, sender);
+    let len = decode::entry_count(message, wire::CLEAR);
+    let mut m = Message {
+        version: wire::VERSION,
+        kind: wire::CLEAR,
+        sender: header.sender,
+        sequence: header.sequence,
+        counter: header.counter,
+        p: 0,
+        start: 0,
+        len,
+        entries: [effect::NO_ENTRY; 16],
+    };
+    let mut below = true;
+    let mut plausible = true;
+    let mut i: usize = 0;
+    while i < len {
+        let e = decode::entry_of(message, i);
+        m.entries[i] = e;
+        below = below & is_card_below(e, r);
+        plausible = plausible & is_entry_plausible(e, own, ours, sender, theirs);
+        i += 1;
+    }
+    let refusal = refusal_of(words, header.counter, header.sender, header.sequence, below);
+    if refusal != 0 {
+        return refused(refusal);
+    }
+    if !plausible {
+        return refused(protocol::IMPLAUSIBLE);
+    }
+    effect::apply_clear(words, r, header.counter as usize, sender, m);
+    Taken {
+        number: 0,
+        sequence: header.sequence,
+    }
+}
+
+// Ruled out: a take that keeps the replica (must-fail/take_keeps_replica), an increment that moves another counter than its own
+// (must-fail/taken_on_counter_0).
 pub fn take(words: &mut [u64], message: &[u8]) -> Taken
     ensures { λ a. ⌜ _≡_ {A = TakeOutcome} (record { answer = a; words = now (words .exit) }) (take-on (now (words .entry)) (now (message .entry))) ⌝ }
 {
     if !words::is_right(words) {
         return refused(protocol::WRONG_REPLICA);
     }
-    let reading = wire::decode::read_message(message);
-    if reading.number != 0 {
+    if !decode::reads(message) {
         return refused(protocol::UNREADABLE);
     }
-    let m = reading.message;
-    take_readable(words, m)
+    let header = reader::header_from(message);
+    if header.kind == wire::CLEAR {
+        return take_clear(words, message, header);
+    }
+    let body = reader::increment_from(message, wire::P_AT);
+    take_increment(words, header, body)
 }

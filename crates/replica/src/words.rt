@@ -157,13 +157,21 @@ pub(crate) fn put_entry(b: &mut [u64], r: usize, q: usize, j: usize, e: Entry)
     put_three(b, at, e);
 }
 
-// Whether a row is well-formed (document 01's 'sound').
+// Whether a row is well-formed (document 01's 'sound'). Each test returns by itself: compiled to branches, that is faster than tests joined by `&`.
 
 fn is_entry_well_formed(e: Entry) -> bool
     ensures { λ a. ⌜ a ≡ entry-well-formed e ⌝ }
 {
-    ((e.p == 0) & (e.n == 0) & (e.c == 0))
-        | ((1 <= e.p) & (e.p <= e.c) & (e.c <= protocol::MAX) & (e.n <= e.p))
+    if e.p == 0 {
+        return (e.n == 0) & (e.c == 0);
+    }
+    if e.c < e.p {
+        return false;
+    }
+    if protocol::MAX < e.c {
+        return false;
+    }
+    e.n <= e.p
 }
 
 fn is_card_well_formed(b: &[u64], r: usize, q: usize, j: usize) -> bool
@@ -172,8 +180,14 @@ fn is_card_well_formed(b: &[u64], r: usize, q: usize, j: usize) -> bool
 {
     let increments = increments_at(b, j);
     let messages = messages_at(b, r, j);
+    if messages < increments {
+        return false;
+    }
+    if protocol::MAX < messages {
+        return false;
+    }
     let e = entry_at(b, r, q, j);
-    (increments <= messages) & (messages <= protocol::MAX) & is_entry_well_formed(e)
+    is_entry_well_formed(e)
 }
 
 // The own entry's c is at most the own C.
@@ -190,11 +204,12 @@ pub(crate) fn is_row_well_formed(b: &[u64], r: usize, q: usize) -> bool
     requires { ⌜ Row (now b) r q ⌝ }
     ensures { λ a. ⌜ a ≡ row-well-formed (now (b .entry)) q ⌝ }
 {
-    let mut well_formed = true;
     let mut j: usize = 0;
     while j < r {
-        well_formed = well_formed & is_card_well_formed(b, r, q, j);
+        if !is_card_well_formed(b, r, q, j) {
+            return false;
+        }
         j += 1;
     }
-    well_formed & is_own_entry_counted(b, r, q)
+    is_own_entry_counted(b, r, q)
 }

@@ -1,7 +1,7 @@
 -- LAWS. The entries of a clear: one turn of each loop over them, their bytes, and the way back from the bytes. Assumes nothing.
 use mathlib.Core.Path.{_≡_, refl, sym, ap, _∙_}
 use mathlib.Core.List.{List, [], _∷_, _++_, append-assoc}
-use mathlib.Core.Bool.{Bool, true, _&&_, and-assoc}
+use mathlib.Core.Bool.{Bool, true, false, _&&_, and-assoc}
 use Prim.Native.Nat.{ℕ, zero, suc, _+_, _-_, _*_, _≤_, _<_}
 use native.Mathlib.Nat.{add-zero, mul-zero}
 use native.Mathlib.Numerals.{add-one}
@@ -12,10 +12,25 @@ use lib.Seq.{sets, set-at, drop-cons, take-nil, drop-nil}
 use borrow.Author.Tests.{lt-ltb, le-ltb}
 use Rattle.protocol.specs.declared.ClearEntry.{ClearEntry}
 use Rattle.protocol.specs.Cases.{by-le}
-use Rattle.wire.specs.Message.{no-entry, entry-bytes, entries-bytes, entry-at, entries-at, entry-in-range, entries-in-range, unused}
+use Rattle.wire.specs.Number.{unsigned-int, unsigned-hyper}
+use Rattle.wire.specs.Message.{Message, no-entry, entry-bytes, entries-bytes, entry-at, entries-at, entry-in-range, entries-in-range, unused}
 use Rattle.wire.specs.Ranges.{entries-fit, entry-fits}
 use Rattle.wire.specs.Lists.{sets-append}
 use Rattle.wire.specs.NumberLaws.{length-bytes-of}
+
+-- a message with other entries: what a loop that fills them makes of it
+abbrev pub holding : Message → List ClearEntry → Message
+holding m es = record {
+  version = m .version;
+  kind = m .kind;
+  sender = m .sender;
+  sequence = m .sequence;
+  counter = m .counter;
+  p = m .p;
+  start = m .start;
+  len = m .len;
+  entries = es;
+}
 
 -- ---- reading
 
@@ -40,7 +55,7 @@ entries-stored i s at more =
     rw left (set-at (entries-at i s at) no-entry (replicate (16 - (i + 1)) no-entry) (entry-at s (at + 20 * i)) i (length-entries-at i s at)
     ∙ rw (add-one i, entries-at-more i s at, append-assoc))
 
--- and tests it: what was found of the entries passed, with the tests of those that are left, is what is found of all
+-- and tests it: all entries left are in range where this one is and those past it are
 entries-next : (low i count : ℕ) (s : List ℕ) (at : ℕ) → i < count
     → entries-in-range low (entries-at (count - i) s (at + 20 * i))
     ≡ entry-in-range low (entry-at s (at + 20 * i)) && entries-in-range (entry-at s (at + 20 * i) .card + 1) (entries-at (count - (i + 1)) s (at + 20 * (i + 1)))
@@ -50,12 +65,12 @@ entries-next low i count s at more =
     let place : at + 20 * (i + 1) ≡ at + 20 * i + 20 = omega arith in
     rw (left, place)
 
-pub entries-tested : (found here all : Bool) (low next i count : ℕ) (s : List ℕ) (at : ℕ) (e : ClearEntry) → i < count → e ≡ entry-at s (at + 20 * i)
-    → here ≡ entry-in-range low e → next ≡ e .card + 1 → found && entries-in-range low (entries-at (count - i) s (at + 20 * i)) ≡ all
-    → found && here && entries-in-range next (entries-at (count - (i + 1)) s (at + 20 * (i + 1))) ≡ all
-entries-tested found here all low next i count s at e more read tested follows before =
-    and-assoc found here (entries-in-range next (entries-at (count - (i + 1)) s (at + 20 * (i + 1))))
-    ∙ rw (tested, follows, read, ← entries-next low i count s at more) before
+module _ (all : Bool) (low i count : ℕ) (s : List ℕ) (at : ℕ) (e : ClearEntry) (more : i < count) (read : e ≡ entry-at s (at + 20 * i)) (before : entries-in-range low (entries-at (count - i) s (at + 20 * i)) ≡ all) where
+  pub entries-passed : (next : ℕ) → entry-in-range low e ≡ true → next ≡ e .card + 1 → entries-in-range next (entries-at (count - (i + 1)) s (at + 20 * (i + 1))) ≡ all
+  entries-passed next fits follows = rw (follows, ap (λ (x : ClearEntry). x .card) read) (rw (entries-next low i count s at more, ← read, fits) at before)
+
+  pub entries-failed : entry-in-range low e ≡ false → false ≡ all
+  entries-failed fails = rw (entries-next low i count s at more, ← read, fails) at before
 
 -- ---- testing the sixteen places
 
@@ -76,12 +91,12 @@ places-next low i len es inside =
     let none-next : len - suc i ≡ 0 = omega arith in
     rw (le-ltb i len (omega arith), none, none-next)))
 
-pub places-tested : (found here all : Bool) (low next i len : ℕ) (es : List ClearEntry) (e : ClearEntry) → i < length es → e ≡ getD es i no-entry
-    → here ≡ entry-fits (ltb i len) low e → next ≡ e .card + 1 → found && entries-fit low (len - i) (drop i es) ≡ all
-    → found && here && entries-fit next (len - (i + 1)) (drop (i + 1) es) ≡ all
-places-tested found here all low next i len es e inside read tested follows before =
-    and-assoc found here (entries-fit next (len - (i + 1)) (drop (i + 1) es))
-    ∙ rw (tested, follows, read, ← places-next low i len es inside) before
+module _ (all : Bool) (low i len : ℕ) (es : List ClearEntry) (inside : i < length es) (before : entries-fit low (len - i) (drop i es) ≡ all) where
+  pub places-passed : (next : ℕ) → let e = getD es i no-entry in entry-fits (ltb i len) low e ≡ true → next ≡ e .card + 1 → entries-fit next (len - (i + 1)) (drop (i + 1) es) ≡ all
+  places-passed next fits follows = rw follows (rw (places-next low i len es inside, fits) at before)
+
+  pub places-failed : entry-fits (ltb i len) low (getD es i no-entry) ≡ false → false ≡ all
+  places-failed fails = rw (places-next low i len es inside, fails) at before
 
 pub places-done : (low n i : ℕ) (es : List ClearEntry) → length es ≤ i → entries-fit low n (drop i es) ≡ true
 unfolding entries-in-range unused
@@ -98,9 +113,17 @@ unfolding entries-bytes
 length-entries-bytes zero es = refl
 length-entries-bytes (suc count) es = simp (length-append, length-entry-bytes) (omega (arith, length-entries-bytes count es))
 
+-- the three numbers of an entry, stored side by side
+entry-written : (out : List ℕ) (at : ℕ) (e : ClearEntry)
+    → sets (sets (sets out at (unsigned-int (e .card))) (at + 4) (unsigned-hyper (e .p))) (at + 12) (unsigned-hyper (e .c)) ≡ sets out at (entry-bytes e)
+unfolding entry-bytes
+entry-written out at e = simp (sets-append, length-append, length-bytes-of)
+
 -- a turn stores the next entry's bytes after those before it
-pub entries-written : (out : List ℕ) (at : ℕ) (es : List ClearEntry) (i : ℕ)
-    → sets (sets out at (entries-bytes i es)) (at + 20 * i) (entry-bytes (getD es i no-entry)) ≡ sets out at (entries-bytes (i + 1) es)
+pub entries-written : (out : List ℕ) (at : ℕ) (es : List ClearEntry) (i : ℕ) → let e = getD es i no-entry in let place = at + 20 * i in
+    sets (sets (sets (sets out at (entries-bytes i es)) place (unsigned-int (e .card))) (place + 4) (unsigned-hyper (e .p))) (place + 12) (unsigned-hyper (e .c))
+    ≡ sets out at (entries-bytes (i + 1) es)
 unfolding entries-bytes
 entries-written out at es i =
-    rw add-one (sym (sets-append out at (entries-bytes i es) (entry-bytes (getD es i no-entry)) ∙ rw (length-entries-bytes i es)))
+    entry-written (sets out at (entries-bytes i es)) (at + 20 * i) (getD es i no-entry)
+    ∙ rw add-one (sym (sets-append out at (entries-bytes i es) (entry-bytes (getD es i no-entry)) ∙ rw (length-entries-bytes i es)))

@@ -14,12 +14,13 @@ use Rattle.protocol.specs.declared.ClearEntry.{ClearEntry}
 use Rattle.protocol.specs.Cases.{by-place, by-test, and-left, and-right}
 use Rattle.wire.specs.Number.{number-at, bytes-of, int-at, hyper-at, unsigned-int, unsigned-hyper}
 use Rattle.wire.specs.Message.{Message, Reading, version-1, increment-kind, clear-kind, no-entry, header-bytes, increment-bytes, entry-bytes, entries-bytes, clear-bytes, message-bytes, message-length, increment-message, clear-message, entries-in-range, in-range, entry-at, entries-at, called-length, message-at, reads, read-message, front-length}
+use Rattle.wire.specs.Parts.{entry-count, increment-part}
 use Rattle.wire.specs.Lists.{parts-join}
 use Rattle.wire.specs.NumberLaws.{Bytes, length-bytes-of, number-at-left, number-at-right, number-at-bytes-of, bytes-of-number-at}
 use Rattle.wire.specs.EntriesLaws.{entries-at-more, length-entries-at, length-entries-bytes}
 use Rattle.wire.specs.WriteLaws.{length-header-bytes, length-clear-bytes, length-message-bytes}
 use Rattle.wire.specs.Bounds.{HeaderBounds, IncrementBounds, EntryBounds, Facts, facts, entries-bounds, kind-right, by-form, len-few, increment-entries, clear-entries}
-use Rattle.wire.specs.MessageLaws.{accepted}
+use Rattle.wire.specs.MessageLaws.{accepted, called-length-least}
 
 -- ---- entries written and read
 
@@ -263,8 +264,8 @@ readable s h =
     }
 
 -- of the two kinds, the other one
-other : (kind : ℕ) → eqb kind increment-kind || eqb kind clear-kind ≡ true → (kind ≡ clear-kind → ⊥) → kind ≡ increment-kind
-other kind h d = eqb-true kind increment-kind (sym (or-false (eqb kind increment-kind)) ∙ rw (ne-eqb kind clear-kind d) at h)
+kind-other : (kind : ℕ) → eqb kind increment-kind || eqb kind clear-kind ≡ true → (kind ≡ clear-kind → ⊥) → kind ≡ increment-kind
+kind-other kind h d = eqb-true kind increment-kind (sym (or-false (eqb kind increment-kind)) ∙ rw (ne-eqb kind clear-kind d) at h)
 
 -- a proof about bytes that read splits by this
 module _ (s : List ℕ) (P : Message → Type 0) where
@@ -276,7 +277,7 @@ module _ (s : List ℕ) (P : Message → Type 0) where
   by-kind b on-increment on-clear =
       by-place (int-at s 4) clear-kind
       (λ e. rw (eq-eqb (int-at s 4) clear-kind e) (on-clear e (b .exact ∙ rw (eq-eqb (int-at s 4) clear-kind e))))
-      (λ d. rw (ne-eqb (int-at s 4) clear-kind d) (on-increment (other (int-at s 4) (b .kind) d) (b .exact ∙ rw (ne-eqb (int-at s 4) clear-kind d))))
+      (λ d. rw (ne-eqb (int-at s 4) clear-kind d) (on-increment (kind-other (int-at s 4) (b .kind) d) (b .exact ∙ rw (ne-eqb (int-at s 4) clear-kind d))))
 
 increment-back : (s : List ℕ) → Bytes s → int-at s 0 ≡ version-1 → int-at s 4 ≡ increment-kind → length s ≡ 36
     → message-bytes (increment-message (int-at s 8) (hyper-at s 12) (int-at s 20) (hyper-at s 24) (int-at s 32)) ≡ s
@@ -330,6 +331,57 @@ message-full s h =
     (λ kind exact few. increment-entries (int-at s 8) (hyper-at s 12) (int-at s 20) (hyper-at s 24) (int-at s 32))
     (λ kind exact few. clear-entries (int-at s 8) (hyper-at s 12) (int-at s 20) (entries-at (int-at s 24) s 28) (few-entries s few))
     short
+
+-- bytes that read are no shorter than the shortest message; those of an increment have its length
+pub read-long : (s : List ℕ) → reads s ≡ true → 28 ≤ length s
+read-long s h = omega (arith, readable s h .exact, called-length-least s)
+
+pub read-exact : (s : List ℕ) → reads s ≡ true → (int-at s 4 ≡ clear-kind → ⊥) → length s ≡ 36
+unfolding called-length
+read-exact s h other = readable s h .exact ∙ rw (ne-eqb (int-at s 4) clear-kind other)
+
+-- the message by its kind
+pub read-clear : (s : List ℕ) → int-at s 4 ≡ clear-kind → message-at s ≡ clear-message (int-at s 8) (hyper-at s 12) (int-at s 20) (entries-at (int-at s 24) s 28)
+unfolding message-at
+read-clear s kind = rw kind
+
+pub read-increment : (s : List ℕ) → (int-at s 4 ≡ clear-kind → ⊥) → message-at s ≡ increment-message (int-at s 8) (hyper-at s 12) (int-at s 20) (hyper-at s 24) (int-at s 32)
+unfolding message-at
+read-increment s other = rw (ne-eqb (int-at s 4) clear-kind other)
+
+-- its entries stand in the bytes, and are not too many
+pub read-count : (s : List ℕ) → reads s ≡ true → (entry-count (int-at s 4) s ≤ card-limit) × (28 + 20 * entry-count (int-at s 4) s ≤ length s)
+unfolding called-length clear-message
+read-count s h =
+    by-place (int-at s 4) clear-kind
+    (λ kind.
+    let few = rw (read-clear s kind, length-entries-at (int-at s 24) s 28) at (len-few (message-at s) (readable s h .fits)) in
+    let exact : length s ≡ 28 + 20 * int-at s 24 = readable s h .exact ∙ rw kind in
+    rw kind (few, omega (arith, exact)))
+    (λ other. rw (ne-eqb (int-at s 4) clear-kind other) (omega arith, omega (arith, read-long s h)))
+
+-- and it is made of its parts
+module _ (s : List ℕ) (h : reads s ≡ true) where
+  pub read-parts : let n = entry-count (int-at s 4) s in let body = increment-part (int-at s 4) s in
+      _≡_ {A = Message} (record {
+        version = version-1;
+        kind = int-at s 4;
+        sender = int-at s 8;
+        sequence = hyper-at s 12;
+        counter = int-at s 20;
+        p = body .p;
+        start = body .start;
+        len = n;
+        entries = entries-at n s 28 ++ replicate (16 - n) no-entry;
+      })
+      (message-at s)
+  unfolding clear-message increment-message entries-at
+  read-parts =
+      by-place (int-at s 4) clear-kind
+      (λ kind. rw (read-clear s kind, kind, length-entries-at (int-at s 24) s 28))
+      (λ other.
+      let kind = kind-other (int-at s 4) (readable s h .kind) other in
+      rw (read-increment s other, ne-eqb (int-at s 4) clear-kind other, kind))
 
 -- the plain bounds of a message that was read
 pub read-facts : (s : List ℕ) → reads s ≡ true → Facts (message-at s)

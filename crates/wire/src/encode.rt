@@ -27,7 +27,7 @@ ghost use lib.Dec.{eqb};
 ghost use lib.ListN.{length};
 ghost use lib.Seq.{sets};
 ghost use Rattle.wire.specs.Number.{unsigned-int, unsigned-hyper};
-ghost use Rattle.wire.specs.Message.{WriteOutcome, over, message-bytes, increment-message, entry-bytes, in-range, write-message};
+ghost use Rattle.wire.specs.Message.{WriteOutcome, over, message-bytes, increment-message, in-range, write-message};
 ghost use Rattle.wire.specs.Ranges.{entry-fits};
 
 fn put_header(version: u32, kind: u32, sender: u32, sequence: u64, counter: u32, out: &mut [u8])
@@ -52,15 +52,6 @@ pub fn put_increment(sender: u32, sequence: u64, counter: u32, p: u64, start: u3
     number::write_u32(out, START_AT, start);
 }
 
-fn put_entry(entry: ClearEntry, at: usize, out: &mut [u8])
-    requires { ⌜ at + 20 ≤ length (now out) ⌝ }
-    ensures { λ _. ⌜ now (out .exit) ≡ sets (now (out .entry)) at (entry-bytes entry) ⌝ }
-{
-    number::write_u32(out, at, entry.card);
-    number::write_u64(out, at + ENTRY_P_AT, entry.p);
-    number::write_u64(out, at + ENTRY_C_AT, entry.c);
-}
-
 // Inner door: writes a clear where there is room for it, whatever its numbers.
 // Ruled out: an entry written past the last (must-fail/entry_past_the_last), and entries left out.
 pub fn put_clear(m: Message, out: &mut [u8])
@@ -72,8 +63,11 @@ pub fn put_clear(m: Message, out: &mut [u8])
     number::write_u32(out, LEN_AT, len as u32);
     let mut i: usize = 0;
     while i < len {
-        let entry = m.entries[i];
-        put_entry(entry, ENTRIES_AT + ENTRY_LENGTH * i, out);
+        // Each number is read where it is written: its byte stores then become one, and those of three numbers in a row do not.
+        let at = ENTRIES_AT + ENTRY_LENGTH * i;
+        number::write_u32(out, at, m.entries[i].card);
+        number::write_u64(out, at + ENTRY_P_AT, m.entries[i].p);
+        number::write_u64(out, at + ENTRY_C_AT, m.entries[i].c);
         i += 1;
     }
 }
@@ -86,24 +80,6 @@ fn place_in_range(used: bool, low: u64, entry: ClearEntry) -> bool
         return range::entry_in_range(low, entry);
     }
     range::entry_unused(entry)
-}
-
-// Whether the message is in range and in its one form: what its kind does not use is 0.
-fn message_in_range(m: Message) -> bool
-    ensures { λ r. ⌜ r ≡ in-range m ⌝ }
-{
-    let len = m.len;
-    let mut fit = range::header_in_range(m.version, m.sender, m.sequence, m.counter)
-        & range::body_in_range(m.kind, m.p, m.start, len);
-    let mut low: u64 = 0;
-    let mut i: usize = 0;
-    while i < range::MOST_ENTRIES {
-        let entry = m.entries[i];
-        fit = fit & place_in_range(i < len, low, entry);
-        low = range::next_card(entry);
-        i += 1;
-    }
-    fit
 }
 
 // Inner door: the length of a message of this kind with `len` entries.
@@ -124,16 +100,29 @@ fn decline(number: u64) -> Written
     Written { number, length: 0 }
 }
 
-// Writes the message from the first byte on, or declines with number 6, then 5, and leaves every byte.
+// Writes the message from the first byte on, or declines with number 6, then 5, and leaves every byte. A message has one form: what its kind does
+// not use is 0. Its places are tested here and not in a function that it is passed to, which would copy it.
 // Ruled out: a writer that takes a message in another form than its one (must-fail/unused_not_zero), and one that touches a byte
 // past the message (must-fail/entry_past_the_last).
 pub fn write_message(m: Message, out: &mut [u8]) -> Written
     ensures { λ r. ⌜ _≡_ {A = WriteOutcome} (record { answer = r; out = now (out .exit) }) (write-message m (now (out .entry))) ⌝ }
 {
-    if !message_in_range(m) {
+    let len = m.len;
+    let header = range::header_in_range(m.version, m.sender, m.sequence, m.counter);
+    if !(header & range::body_in_range(m.kind, m.p, m.start, len)) {
         return decline(protocol::UNREADABLE);
     }
-    let length = length_of(m.kind, m.len);
+    let mut low: u64 = 0;
+    let mut i: usize = 0;
+    while i < range::MOST_ENTRIES {
+        let entry = m.entries[i];
+        if !place_in_range(i < len, low, entry) {
+            return decline(protocol::UNREADABLE);
+        }
+        low = range::next_card(entry);
+        i += 1;
+    }
+    let length = length_of(m.kind, len);
     if out.len() < length {
         return decline(protocol::OUTPUT_TOO_SHORT);
     }

@@ -5,7 +5,7 @@ pub mod decode;
 pub mod encode;
 pub mod number;
 mod range;
-mod reader;
+pub mod reader;
 
 pub const VERSION: u32 = 1;
 
@@ -23,7 +23,7 @@ const SEQUENCE_AT: usize = 12;
 
 const COUNTER_AT: usize = 20;
 
-const P_AT: usize = 24;
+pub const P_AT: usize = 24;
 
 const START_AT: usize = 32;
 

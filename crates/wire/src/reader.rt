@@ -17,7 +17,7 @@ pub(crate) struct Reader<'a> {
 }
 
 // The numbers that every message starts with, and how many bytes are left after them.
-pub(crate) struct Header {
+pub struct Header {
     pub version: u32,
     pub kind: u32,
     pub sender: u32,
@@ -27,7 +27,7 @@ pub(crate) struct Header {
 }
 
 // What an increment has after its header.
-pub(crate) struct Increment {
+pub struct Increment {
     pub p: u64,
     pub start: u32,
 }
@@ -83,7 +83,7 @@ pub(crate) fn left<'a>(r: Reader<'a>) -> usize
 
 // Ruled out: a number read at the place of the one before it, and an unsigned hyper that moves the reader
 // by 4 only.
-pub(crate) fn header_from(bytes: &[u8]) -> Header
+pub fn header_from(bytes: &[u8]) -> Header
     requires { ⌜ 24 ≤ length (now bytes) ⌝ }
     ensures { λ h. ⌜ h ≡ header-at (now (bytes .entry)) ⌝ }
 {
@@ -109,7 +109,7 @@ pub(crate) fn header_from(bytes: &[u8]) -> Header
 }
 
 // Ruled out: `start` before `p`, and `start` inside `p`.
-pub(crate) fn increment_from(bytes: &[u8], at: usize) -> Increment
+pub fn increment_from(bytes: &[u8], at: usize) -> Increment
     requires { ⌜ at + 12 ≤ length (now bytes) ⌝ }
     ensures { λ r. ⌜ r ≡ increment-at (now (bytes .entry)) at ⌝ }
 {

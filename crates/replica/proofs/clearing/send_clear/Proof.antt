@@ -1,101 +1,207 @@
--- The message made is that of `clear-message`, by `clear-sent`; it has at most sixteen entries, of cards below r (`held-below`). Assumes nothing.
+-- The entries found below j stand first, zeros behind them, and there are at most j (`present-turn`, `present-few`). The message made is that of
+-- `clear-message`, by `clear-sent`; it has at most sixteen entries, of cards below r (`made-clear`).
 use borrow.Author.Needs.{needs}
-use mathlib.Core.Path.{refl}
+use Prim.Native.Nat.{_+_, _-_, _≤_}
+use mathlib.Core.Path.{_≡_, refl, sym}
+use mathlib.Core.List.{[], _∷_}
 use native.Mathlib.Omega.{arith}
+use lib.ListN.{length, length-append}
 use denote.Ref.{now}
-use Rattle.replica.specs.SendLaws.{sends-receives, clear-too-long, clear-sent, held-below}
+use Rattle.protocol.specs.declared.ClearEntry.{ClearEntry}
+use Rattle.protocol.specs.Chassis.{present-entries}
+use Rattle.wire.specs.declared.Message.{Message}
+use Rattle.wire.specs.Message.{clear-message}
+use Rattle.wire.specs.EntriesLaws.{holding}
+use Rattle.replica_model.specs.Layout.{entry-of}
+use Rattle.replica.specs.Effects.{padded, padded-next, absent-turn, present-turn, present-few}
+use Rattle.replica.specs.SendLaws.{sends-receives, clear-too-long, clear-sent, made-clear}
 use Rattle.replica.proofs.clearing.send_clear.Statement.{statement}
 use Rattle.replica.proofs.clearing.send_clear.Tie as tie
 
-present-entries-requires : tie.Need-present-entries-requires
-present-entries-requires c κs = search needs
+abbrev Inv-loop : tie.InvT-loop
+Inv-loop words r q out own sequence m₀ len₀ j₀ m len j =
+    (j ≤ r) × (len ≡ length (present-entries j (entry-of r words q))) × (m ≡ holding m₀ (padded (present-entries j (entry-of r words q))))
 
-length-of-requires : tie.Need-length-of-requires
-length-of-requires c κs =
-    let start = c .before .before .before .before in
-    held-below _ _ _ (start .pre) _ (c .present-entries .ensures) .0
+abbrev μ-loop : tie.MeasureT-loop
+μ-loop words r q out own sequence m₀ len₀ j₀ m len j = r - j
 
-refused-requires : tie.Need-refused-requires
-refused-requires c κs = search needs
+-- there are no more of them than cards passed
+few : (c : tie.At-loop Inv-loop μ-loop) → c .loop .len ≤ c .loop .j
+few c =
+    let start = c .before .before .before .before .before .before .before in
+    rw (c .loop .inv .1) (present-few (entry-of (start .args .r) (now (start .args .words)) (start .args .q)) (c .loop .j))
 
-same-length : tie.Need-same-length
-same-length c = search needs
+-- past the loop, with its length, it is the clear of all that are present
+made : (c : tie.After-loop Inv-loop μ-loop) → let at = c .before in let seen = at .before in let start = at .before .before .before .before .before .before .before in let m = at .loop .m in
+    _≡_ {A = Message} (record {
+      version = m .version;
+      kind = m .kind;
+      sender = m .sender;
+      sequence = m .sequence;
+      counter = m .counter;
+      p = m .p;
+      start = m .start;
+      len = at .loop .len;
+      entries = m .entries;
+    })
+    (clear-message (seen .before .before .own-card .result) (seen .messages-at .result + 1) (start .args .q) (present-entries (start .args .r) (entry-of (start .args .r) (now (start .args .words)) (start .args .q))))
+unfolding clear-message
+made c =
+    let at = c .before in
+    let start = at .before .before .before .before .before .before .before in
+    let all : at .loop .j ≡ start .args .r = omega arith in
+    rw (at .loop .inv .1, at .loop .inv .2, all)
 
-returns : tie.Need-returns
-returns c =
-    let long = c .before .before in
-    let made = long .before in
-    let start = made .before .before .before .before in
-    rw (c .refused .ensures) (clear-too-long _ _ _ _ (start .pre) _ (rw (made .present-entries .ensures) at (long .length-of .ensures)) (c .before .if1 .taken))
-
-own-card-requires : tie.Need-own-card-requires
+own-card-requires : tie.Need-own-card-requires Inv-loop μ-loop
 own-card-requires c κs = search needs
 
-messages-at-requires : tie.Need-messages-at-requires
+messages-at-requires : tie.Need-messages-at-requires Inv-loop μ-loop
 messages-at-requires c κs = search needs
 
-add-sequence : tie.Need-add-sequence
+add-sequence : tie.Need-add-sequence Inv-loop μ-loop
 add-sequence c =
     let mine = c .before .before in
-    let start = mine .before .before .before .before .before .before .before .before in
+    let start = mine .before .before .before .before in
     let few = start .pre .more in
     omega (arith, rw (mine .own-card .ensures) at (c .messages-at .ensures))
 
-cast-t21 : tie.Need-cast-t21
-cast-t21 c = search needs
+cast-t18 : tie.Need-cast-t18 Inv-loop μ-loop
+cast-t18 c = search needs
 
-cast-t22 : tie.Need-cast-t22
-cast-t22 c = search needs
+cast-t19 : tie.Need-cast-t19 Inv-loop μ-loop
+cast-t19 c = search needs
 
-put-clear-requires : tie.Need-put-clear-requires
+loop-holds : tie.Need-loop-holds Inv-loop μ-loop
+unfolding present-entries
+loop-holds c = (omega arith, refl, refl)
+
+entry-at-requires : tie.Need-entry-at-requires Inv-loop μ-loop
+entry-at-requires c κs = search needs
+
+cast-card : tie.Need-cast-card Inv-loop μ-loop
+cast-card c = search needs
+
+add-j : tie.Need-add-j Inv-loop μ-loop
+add-j c = search needs
+
+loop-less : tie.Need-loop-less Inv-loop μ-loop
+loop-less c = search needs
+
+loop-again : tie.Need-loop-again Inv-loop μ-loop
+loop-again c =
+    let read = c .before .before in
+    let at = read .before .before .before in
+    let start = at .before .before .before .before .before .before .before in
+    let row = entry-of (start .args .r) (now (start .args .words)) (start .args .q) in
+    let none : row (at .loop .j) .p ≡ 0 = rw (read .entry-at .ensures) at (c .if1 .taken) in
+    (omega arith, rw (absent-turn row (at .loop .j) none) (at .loop .inv .1), rw (absent-turn row (at .loop .j) none) (at .loop .inv .2))
+
+mul-t26 : tie.Need-mul-t26 Inv-loop μ-loop
+mul-t26 c = omega (arith, few (c .before .before .before .before .before))
+
+element-set-from-m : tie.Need-element-set-from-m Inv-loop μ-loop
+element-set-from-m c = omega (arith, few (c .before .before .before .before .before))
+
+add-len : tie.Need-add-len Inv-loop μ-loop
+add-len c = omega (arith, few (c .before .before .before .before .before))
+
+loop-less-2 : tie.Need-loop-less-2 Inv-loop μ-loop
+loop-less-2 c = search needs
+
+loop-again-2 : tie.Need-loop-again-2 Inv-loop μ-loop
+loop-again-2 c =
+    let read = c .before .before in
+    let at = read .before .before .before in
+    let start = at .before .before .before .before .before .before .before in
+    let row = entry-of (start .args .r) (now (start .args .words)) (start .args .q) in
+    let found = read .entry-at .ensures in
+    let some : row (at .loop .j) .p ≡ 0 → ⊥ = rw found at (c .if1 .left) in
+    let es = present-entries (at .loop .j) row in
+    let e : ClearEntry = record { card = at .loop .j; p = row (at .loop .j) .p; c = row (at .loop .j) .c } in
+    let next = present-turn row (at .loop .j) some in (
+      omega arith,
+      rw (next, at .loop .inv .1) (sym (length-append es (e ∷ []))),
+      rw (next, at .loop .inv .2, at .loop .inv .1, found, padded-next es e (omega (arith, present-few row (at .loop .j)))),
+    )
+
+length-of-requires : tie.Need-length-of-requires Inv-loop μ-loop
+length-of-requires c κs = let start = c .before .before .before .before .before .before .before .before in made-clear _ _ _ _ _ (start .pre) _ (made c) .2
+
+refused-requires : tie.Need-refused-requires Inv-loop μ-loop
+refused-requires c κs = search needs
+
+same-length : tie.Need-same-length Inv-loop μ-loop
+same-length c = search needs
+
+returns : tie.Need-returns Inv-loop μ-loop
+returns c =
+    let long = c .before .before in
+    let after = long .before in
+    let start = after .before .before .before .before .before .before .before .before in
+    let facts = made-clear _ _ _ _ _ (start .pre) _ (made after) in
+    rw (c .refused .ensures) (clear-too-long _ _ _ _ (start .pre) _ (rw (facts .1) at (long .length-of .ensures)) (c .before .if2 .taken))
+
+put-clear-requires : tie.Need-put-clear-requires Inv-loop μ-loop
 put-clear-requires c κs =
-    let else1 = c .before .before .before .before .before .before in
-    let long = else1 .before in
-    let made = long .before in
-    let start = made .before .before .before .before in
-    (refl, held-below _ _ _ (start .pre) _ (made .present-entries .ensures) .0, omega (arith, long .length-of .ensures))
+    let long = c .before .before in
+    let after = long .before in
+    let start = after .before .before .before .before .before .before .before .before in
+    let facts = made-clear _ _ _ _ _ (start .pre) _ (made after) in
+    (facts .0, facts .2, omega (arith, long .length-of .ensures))
 
-apply-clear-requires : tie.Need-apply-clear-requires
+apply-clear-requires : tie.Need-apply-clear-requires Inv-loop μ-loop
 apply-clear-requires c κs =
-    let mine = c .before .before .before .before .before .before .before .before in
-    let made = mine .before .before .before .before in
-    let start = made .before .before .before .before in
-    let (few, below) = held-below _ _ _ (start .pre) _ (made .present-entries .ensures) in
-    rw (mine .own-card .ensures) (sends-receives _ _ _ (start .pre), few, below)
+    let after = c .before .before .before .before .before .before .before in
+    let mine = after .before .before .before .before in
+    let start = mine .before .before .before .before in
+    let facts = made-clear _ _ _ _ _ (start .pre) _ (made after) in
+    rw (mine .own-card .ensures) (sends-receives _ _ _ (start .pre), facts .2, facts .3)
 
-same-length-2 : tie.Need-same-length-2
+same-length-2 : tie.Need-same-length-2 Inv-loop μ-loop
 same-length-2 c = search needs
 
-same-length-3 : tie.Need-same-length-3
+same-length-3 : tie.Need-same-length-3 Inv-loop μ-loop
 same-length-3 c = search needs
 
-returns-2 : tie.Need-returns-2
+returns-2 : tie.Need-returns-2 Inv-loop μ-loop
 returns-2 c =
     let applied = c .before .before in
     let put = applied .before .before .before .before in
-    let seen = put .before .before .before in
+    let else2 = put .before .before in
+    let long = else2 .before in
+    let after = long .before in
+    let seen = after .before .before in
     let mine = seen .before .before in
-    let else1 = mine .before .before in
-    let long = else1 .before in
-    let made = long .before in
-    let start = made .before .before .before .before in
-    clear-sent _ (now (start .args .out)) _ _ (start .pre) _ _ _ _ (mine .own-card .ensures) (seen .messages-at .ensures) _ _ (made .present-entries .ensures)
-    (long .length-of .ensures) (else1 .if1 .left) (put .put-clear .ensures) (applied .apply-clear .ensures)
+    let start = mine .before .before .before .before in
+    clear-sent _ (now (start .args .out)) _ _ (start .pre) _ _ _ _ (mine .own-card .ensures) (seen .messages-at .ensures) _ _ (made after)
+    (long .length-of .ensures) (else2 .if2 .left) (put .put-clear .ensures) (applied .apply-clear .ensures)
 
 pub send-clear-spec : {M : Type 1} → statement M
 send-clear-spec =
     tie.close
     (tie.spec
-    present-entries-requires
+    Inv-loop
+    μ-loop
+    own-card-requires
+    messages-at-requires
+    add-sequence
+    cast-t18
+    cast-t19
+    loop-holds
+    entry-at-requires
+    cast-card
+    add-j
+    loop-less
+    loop-again
+    mul-t26
+    element-set-from-m
+    add-len
+    loop-less-2
+    loop-again-2
     length-of-requires
     refused-requires
     same-length
     returns
-    own-card-requires
-    messages-at-requires
-    add-sequence
-    cast-t21
-    cast-t22
     put-clear-requires
     apply-clear-requires
     same-length-2

@@ -9,20 +9,22 @@ use lib.Seq.{getD-take, length-take-le}
 use Rattle.wire.specs.Message.{no-entry}
 use Rattle.replica_model.specs.Layout.{counters}
 use Rattle.replica.specs.Effects.{Clearing, clearing-begins, next-card, clearing-turn, clearing-ends, clear-taken}
+use Rattle.replica.proofs.Entries.{sixteen}
 use Rattle.replica.proofs.effect.apply_clear.Statement.{statement}
 use Rattle.replica.proofs.effect.apply_clear.Tie as tie
 
 abbrev Inv-loop : tie.InvT-loop
-Inv-loop b₀ r q j len entries known i₀ b i = (i ≤ len) × Clearing r (counters b₀) q j (take len entries) b₀ i b
+Inv-loop b₀ r q j m len known i₀ b i = (i ≤ len) × Clearing r (counters b₀) q j (take len (m .entries)) b₀ i b
 
 abbrev μ-loop : tie.MeasureT-loop
-μ-loop b₀ r q j len entries known i₀ b i = len - i
+μ-loop b₀ r q j m len known i₀ b i = len - i
 
 -- the clear has as many entries as its length says
-entries-long : (c : tie.Start Inv-loop μ-loop) → length (take (c .args .len) (c .args .t5)) ≡ c .args .len
+entries-long : (c : tie.Start Inv-loop μ-loop) → let m = c .args .t5 in length (take (m .len) (m .entries)) ≡ m .len
 entries-long c =
-    let all : length (c .args .t5) ≡ 16 = c .good .1 .1 .1 .1 .0 .1 .0 .1 in
-    length-take-le (c .args .len) (c .args .t5) (omega arith)
+    let m = c .args .t5 in
+    let full = sixteen m (c .good .1 .1 .1 .1 .0) in
+    length-take-le (m .len) (m .entries) (omega arith)
 
 increments-at-requires : tie.Need-increments-at-requires Inv-loop μ-loop
 increments-at-requires c κs = search needs
@@ -35,8 +37,8 @@ loop-holds c =
 mul-entry : tie.Need-mul-entry Inv-loop μ-loop
 mul-entry c = search needs
 
-array-copy-out-entry : tie.Need-array-copy-out-entry Inv-loop μ-loop
-array-copy-out-entry c = search needs
+element-copy-out-entry : tie.Need-element-copy-out-entry Inv-loop μ-loop
+element-copy-out-entry c = search needs
 
 clear-entry-requires : tie.Need-clear-entry-requires Inv-loop μ-loop
 clear-entry-requires c κs =
@@ -44,7 +46,7 @@ clear-entry-requires c κs =
     let at = turn .before in
     let start = at .before .before .before .before in
     let all = entries-long start in
-    let here = getD-take (start .args .len) (start .args .t5) (at .loop .i) no-entry (turn .loop-test .taken) in
+    let here = getD-take (start .args .t5 .len) (start .args .t5 .entries) (at .loop .i) no-entry (turn .loop-test .taken) in
     (at .loop .inv .1 .receives .row, rw here at (next-card _ _ _ _ _ _ (at .loop .i) _ (at .loop .inv .1) (omega arith)))
 
 add-i : tie.Need-add-i Inv-loop μ-loop
@@ -59,7 +61,7 @@ loop-again c =
     let at = cleared .before .before .before .before in
     let start = at .before .before .before .before in
     let all = entries-long start in
-    let here = getD-take (start .args .len) (start .args .t5) (at .loop .i) no-entry (omega arith) in
+    let here = getD-take (start .args .t5 .len) (start .args .t5 .entries) (at .loop .i) no-entry (omega arith) in
     (omega arith, rw (cleared .clear-entry .ensures) (rw here at (clearing-turn _ _ _ _ _ _ (at .loop .i) _ (at .loop .inv .1) (omega arith))))
 
 receive-requires : tie.Need-receive-requires Inv-loop μ-loop
@@ -92,7 +94,7 @@ apply-clear-spec =
     increments-at-requires
     loop-holds
     mul-entry
-    array-copy-out-entry
+    element-copy-out-entry
     clear-entry-requires
     add-i
     loop-less

@@ -1,96 +1,132 @@
--- By the four checks in turn; past each, what it tested is known.
-use Prim.Native.Nat.{_+_, _≤_, _<_}
+-- By the five checks in turn; past each, what it tested is known.
+use Prim.Native.Nat.{_≤_, _<_}
 use mathlib.Core.Path.{_≡_, sym, _∙_}
-use mathlib.Core.Bool.{true}
+use mathlib.Core.Bool.{true, not, _&&_}
 use native.Mathlib.Omega.{arith}
+use lib.Dec.{ltb, eqb}
 use borrow.Author.Needs.{needs}
-use borrow.Author.Tests.{not-true, not-false, le-ltb, lt-ltb, le-leb, lt-leb}
+use borrow.Author.Tests.{not-true, not-false, le-ltb, lt-ltb, le-leb, lt-leb, ltb-true}
 use denote.Ref.{now}
-use Rattle.replica_model.specs.Layout.{cards, N-of}
-use Rattle.replica_model.specs.Calls.{cards-known}
-use Rattle.replica.specs.Taking.{refusal, Known, known}
+use Rattle.protocol.specs.Limits.{MAX}
+use Rattle.protocol.specs.Cases.{and-left}
+use Rattle.replica_model.specs.Layout.{cards, counters, own-card, N-of}
+use Rattle.replica_model.specs.Calls.{row-well-formed}
+use Rattle.replica.specs.Rows.{Row, row, right-long, card-facts}
+use Rattle.replica.specs.Taking.{refusal}
 use Rattle.replica.proofs.take.refusal_of.Statement.{statement}
 use Rattle.replica.proofs.take.refusal_of.Tie as tie
 
 -- what is known past each check
-cards-are-known : (c : tie.Else1) → let start = c .before .before .before in cards-known (now (start .args .b)) (start .args .m) ≡ true
-cards-are-known c = sym (c .before .are-cards-known .ensures) ∙ not-false _ (c .if1 .left)
+below : (c : tie.Else1) → let start = c .before .before .before in start .args .counter < counters (now (start .args .b))
+below c = rw (c .before .counters-of .ensures) at (c .if1 .left)
 
-sender-known : (c : tie.Else1) → let start = c .before .before .before in Known (now (start .args .b)) (start .args .m)
-sender-known c = known _ _ (cards-are-known c)
+in-row : (c : tie.After-cards-of) → let start = c .before .before .before .before in Row (now (start .args .b)) (c .cards-of .result) (start .args .counter)
+in-row c = let else1 = c .before in rw (c .cards-of .ensures) (row _ _ (else1 .before .before .before .pre) (below else1))
 
-received-is : (c : tie.After-messages-at) → let start = c .before .before .before .before .before in
-    c .messages-at .result ≡ N-of (cards (now (start .args .b))) (now (start .args .b)) (start .args .m .sender)
-received-is c = let start = c .before .before .before .before .before in rw (start .pre .row .first) at (c .messages-at .ensures)
+formed : (c : tie.Else2) → let start = c .before .before .before .before .before .before in row-well-formed (now (start .args .b)) (start .args .counter) ≡ true
+formed c = sym (c .before .is-row-well-formed .ensures) ∙ not-false _ (c .if2 .left)
 
-is-new : (c : tie.Else2) → let start = c .before .before .before .before .before .before .before in
-    N-of (cards (now (start .args .b))) (now (start .args .b)) (start .args .m .sender) < start .args .m .sequence
-is-new c = rw (received-is (c .before .before)) at (c .if2 .left)
+cards-tested : (c : tie.After-own-card) → let sized = c .before .before .before in let start = sized .before .before .before .before in let b = now (start .args .b) in let j = start .args .sender in
+    (ltb j (sized .cards-of .result) && not (eqb j (c .own-card .result)) && start .args .known) ≡ (ltb j (cards b) && not (eqb j (own-card b)) && start .args .known)
+cards-tested c = rw (c .before .before .before .cards-of .ensures, c .own-card .ensures)
 
-is-next : (c : tie.Else3) → let start = c .before .before .before .before .before .before .before .before .before in
-    start .args .m .sequence ≤ N-of (cards (now (start .args .b))) (now (start .args .b)) (start .args .m .sender) + 1
-is-next c = rw (received-is (c .before .before .before .before)) at (c .if3 .left)
+cards-known : (c : tie.Else3) → let start = c .before .before .before .before .before .before .before .before in let b = now (start .args .b) in let j = start .args .sender in
+    (ltb j (cards b) && not (eqb j (own-card b)) && start .args .known) ≡ true
+cards-known c = sym (cards-tested (c .before)) ∙ not-false _ (c .if3 .left)
 
-are-cards-known-requires : tie.Need-are-cards-known-requires
-are-cards-known-requires c κs = search needs
+sender-below : (c : tie.Else3) → let sized = c .before .before .before .before in sized .before .before .before .before .args .sender < sized .cards-of .result
+sender-below c =
+    let sized = c .before .before .before .before in
+    rw (sized .cards-of .ensures) (ltb-true _ _ (and-left _ _ (and-left _ _ (cards-known c))))
+
+received-is : (c : tie.After-messages-at) → let start = c .before .before .before .before .before .before .before .before .before in let b = now (start .args .b) in
+    c .messages-at .result ≡ N-of (cards b) b (start .args .sender)
+received-is c = let sized = c .before .before .before .before .before in rw (sized .cards-of .ensures) at (c .messages-at .ensures)
+
+received-most : (c : tie.After-messages-at) → c .messages-at .result ≤ MAX
+received-most c =
+    let else3 = c .before in
+    let else2 = else3 .before .before in
+    let sized = else2 .before .before in
+    let start = sized .before .before .before .before in
+    let below-cards : start .args .sender < cards (now (start .args .b)) = rw (sized .cards-of .ensures) at (sender-below else3) in
+    rw (received-is c) (card-facts _ _ (formed else2) _ below-cards .N-below)
+
+is-new : (c : tie.Else4) → let start = c .before .before .before .before .before .before .before .before .before .before in let b = now (start .args .b) in
+    ltb (N-of (cards b) b (start .args .sender)) (start .args .sequence) ≡ true
+is-new c = lt-ltb _ _ (rw (received-is (c .before)) at (c .if4 .left))
+
+counters-of-requires : tie.Need-counters-of-requires
+counters-of-requires c κs = right-long _ (c .before .pre)
 
 returns : tie.Need-returns
 unfolding refusal
-returns c = rw (sym (c .before .are-cards-known .ensures) ∙ not-true _ (c .if1 .taken))
+returns c = rw (le-ltb _ _ (rw (c .before .counters-of .ensures) at (c .if1 .taken)))
 
-cast-messages-at : tie.Need-cast-messages-at
-cast-messages-at c = search needs
+cards-of-requires : tie.Need-cards-of-requires
+cards-of-requires c κs = right-long _ (c .before .before .before .pre)
 
-messages-at-requires : tie.Need-messages-at-requires
-messages-at-requires c κs = let k = sender-known (c .before) in omega arith
+is-row-well-formed-requires : tie.Need-is-row-well-formed-requires
+is-row-well-formed-requires c κs = in-row c
 
 returns-2 : tie.Need-returns-2
 unfolding refusal
 returns-2 c =
-    let received = c .before .before in
-    rw (cards-are-known (received .before .before), le-ltb _ _ (rw (received-is received) at (c .if2 .taken)))
+    let looked = c .before in
+    rw (lt-ltb _ _ (below (looked .before .before)), sym (looked .is-row-well-formed .ensures) ∙ not-true _ (c .if2 .taken))
 
-add-if3 : tie.Need-add-if3
-add-if3 c = search needs
+own-card-requires : tie.Need-own-card-requires
+own-card-requires c κs = let in-here = in-row (c .before .before) in omega arith
 
 returns-3 : tie.Need-returns-3
 unfolding refusal
 returns-3 c =
     let else2 = c .before .before in
-    let received = else2 .before .before in
-    rw (cards-are-known (received .before .before), lt-ltb _ _ (is-new else2), lt-leb _ _ (rw (received-is received) at (c .if3 .taken)))
+    rw (lt-ltb _ _ (below (else2 .before .before .before)), formed else2, sym (cards-tested (c .before)) ∙ not-true _ (c .if3 .taken))
 
-is-plausible-requires : tie.Need-is-plausible-requires
-is-plausible-requires c κs =
-    let else1 = c .before .before .before .before .before .before in
-    let start = else1 .before .before .before in
-    (start .pre, rw (start .pre .row .first) (sender-known else1 .sender))
+messages-at-requires : tie.Need-messages-at-requires
+messages-at-requires c κs = let in-here = in-row (c .before .before .before .before) in let card = sender-below c in omega arith
 
 returns-4 : tie.Need-returns-4
 unfolding refusal
 returns-4 c =
-    let else3 = c .before .before in
+    let received = c .before in
+    let else3 = received .before in
     let else2 = else3 .before .before in
-    rw (cards-are-known (else2 .before .before .before .before), lt-ltb _ _ (is-new else2), le-leb _ _ (is-next else3), sym (c .before .is-plausible .ensures) ∙ c .if4 .taken)
+    rw (lt-ltb _ _ (below (else2 .before .before .before)), formed else2, cards-known else3, le-ltb _ _ (rw (received-is received) at (c .if4 .taken)))
+
+add-if5 : tie.Need-add-if5
+add-if5 c = let most = received-most (c .before) in omega arith
 
 returns-5 : tie.Need-returns-5
 unfolding refusal
 returns-5 c =
-    let else3 = c .before .before in
+    let else4 = c .before in
+    let else3 = else4 .before .before in
     let else2 = else3 .before .before in
-    rw (cards-are-known (else2 .before .before .before .before), lt-ltb _ _ (is-new else2), le-leb _ _ (is-next else3), sym (c .before .is-plausible .ensures) ∙ c .if4 .left)
+    rw (lt-ltb _ _ (below (else2 .before .before .before)), formed else2, cards-known else3, is-new else4, lt-leb _ _ (rw (received-is (else4 .before)) at (c .if5 .taken)))
+
+returns-6 : tie.Need-returns-6
+unfolding refusal
+returns-6 c =
+    let else4 = c .before in
+    let else3 = else4 .before .before in
+    let else2 = else3 .before .before in
+    rw (lt-ltb _ _ (below (else2 .before .before .before)), formed else2, cards-known else3, is-new else4, le-leb _ _ (rw (received-is (else4 .before)) at (c .if5 .left)))
 
 pub refusal-of-spec : {M : Type 1} → statement M
 refusal-of-spec =
     tie.close
     (tie.spec
-    are-cards-known-requires
+    counters-of-requires
     returns
-    cast-messages-at
-    messages-at-requires
+    cards-of-requires
+    is-row-well-formed-requires
     returns-2
-    add-if3
+    own-card-requires
     returns-3
-    is-plausible-requires
+    messages-at-requires
     returns-4
-    returns-5)
+    add-if5
+    returns-5
+    returns-6)

@@ -1,12 +1,16 @@
--- By the two checks in turn; bytes that read are a message in range.
+-- By the two checks and the kind in turn; bytes that read are a message in range.
 use mathlib.Core.Path.{_≡_, sym, _∙_}
 use mathlib.Core.Bool.{true}
+use native.Mathlib.Omega.{arith}
 use borrow.Author.Needs.{needs}
 use borrow.Author.Tests.{not-true, not-false}
 use denote.Ref.{now}
-use Rattle.wire.specs.Message.{reads, message-at}
+use Rattle.wire.specs.Number.{int-at}
+use Rattle.wire.specs.Message.{clear-kind, reads}
+use Rattle.wire.specs.PartsLaws.{header-read, increment-read}
+use Rattle.wire.specs.RoundTrips.{read-long, read-exact, read-increment}
 use Rattle.replica_model.specs.Calls.{right, take-on}
-use Rattle.replica.specs.Taking.{reads-readable, reads-yes, reads-no}
+use Rattle.replica.specs.Taking.{read-p}
 use Rattle.replica.proofs.take.take.Statement.{statement}
 use Rattle.replica.proofs.take.take.Tie as tie
 
@@ -14,9 +18,13 @@ use Rattle.replica.proofs.take.take.Tie as tie
 is-right : (c : tie.Else1) → right (now (c .before .before .before .before .before .args .words)) ≡ true
 is-right c = sym (c .before .is-right .ensures) ∙ not-false _ (c .if1 .left)
 
-read-yes : (c : tie.Else2) → let read = c .before .before in let start = read .before .before .before .before .before .before in
-    (reads (now (start .args .message)) ≡ true) × (read .read-message .result .message ≡ message-at (now (start .args .message)))
-read-yes c = let read = c .before .before in reads-yes _ _ (read .read-message .ensures) (c .if2 .left)
+read-yes : (c : tie.Else2) → reads (now (c .before .before .before .before .before .before .before .args .message)) ≡ true
+read-yes c = sym (c .before .reads .ensures) ∙ not-false _ (c .if2 .left)
+
+no-clear : (c : tie.Else3) → int-at (now (c .before .before .before .before .before .before .before .before .before .before .args .message)) 4 ≡ clear-kind → ⊥
+no-clear c e =
+    let header = c .before .before in
+    c .if3 .left (header-read _ (header .header-from .result) (header .header-from .ensures) .kind ∙ e)
 
 is-right-requires : tie.Need-is-right-requires
 is-right-requires c κs = search needs
@@ -33,8 +41,8 @@ returns c =
     let then1 = c .before in
     rw (c .refused .ensures, sym (then1 .before .is-right .ensures) ∙ not-true _ (then1 .if1 .taken))
 
-read-message-requires : tie.Need-read-message-requires
-read-message-requires c κs = search needs
+reads-requires : tie.Need-reads-requires
+reads-requires c κs = search needs
 
 refused-requires-2 : tie.Need-refused-requires-2
 refused-requires-2 c κs = search needs
@@ -46,14 +54,18 @@ returns-2 : tie.Need-returns-2
 unfolding take-on
 returns-2 c =
     let then2 = c .before in
-    let read = then2 .before .before in
-    rw (c .refused2 .ensures, is-right (read .before), reads-no _ _ (read .read-message .ensures) (then2 .if2 .taken))
+    let read = then2 .before in
+    rw (c .refused2 .ensures, is-right (read .before), sym (read .reads .ensures) ∙ not-true _ (then2 .if2 .taken))
 
-take-readable-requires : tie.Need-take-readable-requires
-take-readable-requires c κs =
-    let else2 = c .before .before in
-    let read = read-yes else2 in
-    (is-right (else2 .before .before .before), rw (read .1) (reads-readable _ (read .0)))
+header-from-requires : tie.Need-header-from-requires
+header-from-requires c κs = omega (arith, read-long _ (read-yes c))
+
+take-clear-requires : tie.Need-take-clear-requires
+take-clear-requires c κs =
+    let then3 = c .before in
+    let header = then3 .before .before in
+    let else2 = header .before in
+    (is-right (else2 .before .before), read-yes else2, header .header-from .ensures, then3 .if3 .taken)
 
 same-length-3 : tie.Need-same-length-3
 same-length-3 c = search needs
@@ -62,9 +74,36 @@ returns-3 : tie.Need-returns-3
 unfolding take-on
 returns-3 c =
     let taken = c .before .before in
-    let else2 = taken .before .before .before in
-    let read = read-yes else2 in
-    rw (is-right (else2 .before .before .before), read .0) (rw (read .1) at (taken .take-readable .ensures))
+    let else2 = taken .before .before .before .before .before in
+    rw (is-right (else2 .before .before), read-yes else2) (taken .take-clear .ensures)
+
+increment-from-requires : tie.Need-increment-from-requires
+increment-from-requires c κs = let else2 = c .before .before .before in omega (arith, read-exact _ (read-yes else2) (no-clear c))
+
+take-increment-requires : tie.Need-take-increment-requires
+take-increment-requires c κs =
+    let body = c .before in
+    let else3 = body .before in
+    let else2 = else3 .before .before .before in
+    let b = increment-read _ 24 (body .increment-from .result) (body .increment-from .ensures) in
+    (is-right (else2 .before .before), rw (b .p) (read-p _ (read-yes else2) (no-clear else3)))
+
+same-length-4 : tie.Need-same-length-4
+same-length-4 c = search needs
+
+returns-4 : tie.Need-returns-4
+unfolding take-on
+returns-4 c =
+    let taken = c .before .before in
+    let body = taken .before .before in
+    let else3 = body .before in
+    let header = else3 .before .before in
+    let else2 = header .before in
+    let s = now (else2 .before .before .before .before .before .before .before .args .message) in
+    let h = header-read s (header .header-from .result) (header .header-from .ensures) in
+    let b = increment-read s 24 (body .increment-from .result) (body .increment-from .ensures) in
+    rw (is-right (else2 .before .before), read-yes else2)
+    (rw (h .sender, h .sequence, h .counter, b .p, b .start, ← read-increment s (no-clear else3)) at (taken .take-increment .ensures))
 
 pub take-spec : {M : Type 1} → statement M
 take-spec =
@@ -74,10 +113,15 @@ take-spec =
     refused-requires
     same-length
     returns
-    read-message-requires
+    reads-requires
     refused-requires-2
     same-length-2
     returns-2
-    take-readable-requires
+    header-from-requires
+    take-clear-requires
     same-length-3
-    returns-3)
+    returns-3
+    increment-from-requires
+    take-increment-requires
+    same-length-4
+    returns-4)

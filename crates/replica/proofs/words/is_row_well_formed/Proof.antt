@@ -1,26 +1,33 @@
--- The invariant: the flag is `all-below j` of the cards looked at so far.
-use Prim.Native.Nat.{_-_, _≤_}
-use mathlib.Core.Path.{_≡_}
+-- The invariant: every card below j is well-formed. So the own entry decides at the end, and the first card that is not well-formed decides at once.
+use Prim.Native.Nat.{ℕ, _-_, _≤_, _<_}
+use mathlib.Core.Path.{_≡_, sym, _∙_}
+use mathlib.Core.Bool.{true}
 use native.Mathlib.Omega.{arith}
+use borrow.Author.Count.{below-none, below-more}
 use borrow.Author.Needs.{needs}
-use denote.Ref.{now}
-use Rattle.replica_model.specs.Calls.{all-below, card-well-formed, row-well-formed}
-use Rattle.replica.specs.Rows.{all-below-turn}
+use borrow.Author.Tests.{not-true, not-false}
+use Rattle.replica_model.specs.Calls.{card-well-formed}
+use Rattle.replica.specs.Rows.{row-fails, row-passes}
 use Rattle.replica.proofs.words.is_row_well_formed.Statement.{statement}
 use Rattle.replica.proofs.words.is_row_well_formed.Tie as tie
 
 abbrev Inv-loop : tie.InvT-loop
-Inv-loop b r q well-formed₀ j₀ well-formed j = (j ≤ r) × (well-formed ≡ all-below j (card-well-formed r b q))
+Inv-loop b r q j₀ j = (j ≤ r) × ((i : ℕ) → i < j → card-well-formed r b q i ≡ true)
 
 abbrev μ-loop : tie.MeasureT-loop
-μ-loop b r q well-formed₀ j₀ well-formed j = r - j
+μ-loop b r q j₀ j = r - j
 
 loop-holds : tie.Need-loop-holds Inv-loop μ-loop
-unfolding all-below
-loop-holds c = search needs
+loop-holds c = (search needs, below-none _)
 
 is-card-well-formed-requires : tie.Need-is-card-well-formed-requires Inv-loop μ-loop
 is-card-well-formed-requires c κs = search needs
+
+returns : tie.Need-returns Inv-loop μ-loop
+returns c =
+    let looked = c .before in
+    let start = looked .before .before .before .before in
+    row-fails _ _ _ (rw (start .pre .first) at (looked .before .loop-test .taken)) (rw (start .pre .first) at (sym (looked .is-card-well-formed .ensures) ∙ not-true _ (c .if1 .taken)))
 
 add-j : tie.Need-add-j Inv-loop μ-loop
 add-j c = search needs
@@ -30,20 +37,18 @@ loop-less c = search needs
 
 loop-again : tie.Need-loop-again Inv-loop μ-loop
 loop-again c =
-    let at = c .before .before in
-    let args = at .before .before .args in
-    (search needs, rw (at .loop .inv .1, c .is-card-well-formed .ensures) (all-below-turn (at .loop .j) (card-well-formed (args .r) (now (args .b)) (args .q))))
+    let looked = c .before in
+    (search needs, below-more _ _ (looked .before .before .loop .inv .1) (sym (looked .is-card-well-formed .ensures) ∙ not-false _ (c .if1 .left)))
 
 is-own-entry-counted-requires : tie.Need-is-own-entry-counted-requires Inv-loop μ-loop
 is-own-entry-counted-requires c κs = search needs
 
-returns : tie.Need-returns Inv-loop μ-loop
-unfolding row-well-formed
-returns c =
+returns-2 : tie.Need-returns-2 Inv-loop μ-loop
+returns-2 c =
     let at = c .before .before in
     let start = at .before .before in
     let all : at .loop .j ≡ start .args .r = omega arith in
-    rw (at .loop .inv .1, c .is-own-entry-counted .ensures, all, start .pre .first)
+    rw (c .is-own-entry-counted .ensures, start .pre .first) (row-passes _ _ (rw (all, start .pre .first) at (at .loop .inv .1)))
 
 pub is-row-well-formed-spec : {M : Type 1} → statement M
 is-row-well-formed-spec =
@@ -53,8 +58,9 @@ is-row-well-formed-spec =
     μ-loop
     loop-holds
     is-card-well-formed-requires
+    returns
     add-j
     loop-less
     loop-again
     is-own-entry-counted-requires
-    returns)
+    returns-2)

@@ -1,6 +1,6 @@
--- The called length, the room for it, and the answer to exactly those bytes, as the definition goes.
+-- The called length, the room for it, and the test of exactly those bytes, as the definition goes.
 use borrow.Author.Needs.{needs}
-use mathlib.Core.Path.{refl, sym}
+use mathlib.Core.Path.{refl, sym, _∙_}
 use native.Mathlib.Omega.{arith}
 use lib.ListN.{length}
 use lib.Seq.{length-take-le}
@@ -26,11 +26,11 @@ returns-2 c =
     let s = now (c .before .before .before .before .args .bytes) in
     (front-length-short s (called .result) (called .ensures) (c .if2 .taken), search needs)
 
-slice-aggregate-read-message : tie.Need-slice-aggregate-read-message
-slice-aggregate-read-message c = sym (length-take-le _ _ (c .before .if2 .left))
+slice-aggregate-reads : tie.Need-slice-aggregate-reads
+slice-aggregate-reads c = sym (length-take-le _ _ (c .before .if2 .left))
 
-read-message-requires : tie.Need-read-message-requires
-read-message-requires c κs = search needs
+reads-requires : tie.Need-reads-requires
+reads-requires c κs = search needs
 
 returns-3 : tie.Need-returns-3
 returns-3 c =
@@ -38,7 +38,7 @@ returns-3 c =
     let else2 = read .before .before in
     let called = else2 .before .called-length-of in
     let s = now (else2 .before .before .before .before .args .bytes) in
-    (front-length-some s (called .result) (called .ensures) (read .read-message .result) (read .read-message .ensures) (else2 .if2 .left) (c .if3 .taken), search needs)
+    (front-length-some s (called .result) (called .ensures) (else2 .if2 .left) (sym (read .reads .ensures) ∙ c .if3 .taken), search needs)
 
 returns-4 : tie.Need-returns-4
 returns-4 c =
@@ -46,7 +46,7 @@ returns-4 c =
     let else2 = read .before .before in
     let called = else2 .before .called-length-of in
     let s = now (else2 .before .before .before .before .args .bytes) in
-    (front-length-none s (called .result) (called .ensures) (read .read-message .result) (read .read-message .ensures) (else2 .if2 .left) (c .if3 .left), search needs)
+    (front-length-none s (called .result) (called .ensures) (else2 .if2 .left) (sym (read .reads .ensures) ∙ c .if3 .left), search needs)
 
 pub front-length-spec : {M : Type 1} → statement M
 front-length-spec =
@@ -55,7 +55,7 @@ front-length-spec =
     returns
     called-length-of-requires
     returns-2
-    slice-aggregate-read-message
-    read-message-requires
+    slice-aggregate-reads
+    reads-requires
     returns-3
     returns-4)

@@ -32,20 +32,44 @@ loop-holds : tie.Need-loop-holds Inv-loop μ-loop
 unfolding entries-bytes
 loop-holds c = search needs
 
-mul-entry : tie.Need-mul-entry Inv-loop μ-loop
-mul-entry c = search needs
+mul-at : tie.Need-mul-at Inv-loop μ-loop
+mul-at c = search needs
 
-element-copy-out-entry : tie.Need-element-copy-out-entry Inv-loop μ-loop
-element-copy-out-entry c = search needs
+add-at : tie.Need-add-at Inv-loop μ-loop
+add-at c = search needs
 
-mul-put-entry : tie.Need-mul-put-entry Inv-loop μ-loop
-mul-put-entry c = search needs
+mul-write-u32 : tie.Need-mul-write-u32 Inv-loop μ-loop
+mul-write-u32 c = search needs
 
-add-put-entry : tie.Need-add-put-entry Inv-loop μ-loop
-add-put-entry c = search needs
+element-copy-out-write-u32 : tie.Need-element-copy-out-write-u32 Inv-loop μ-loop
+element-copy-out-write-u32 c = search needs
 
-put-entry-requires : tie.Need-put-entry-requires Inv-loop μ-loop
-put-entry-requires c κs = search needs
+write-u32-requires-2 : tie.Need-write-u32-requires-2 Inv-loop μ-loop
+write-u32-requires-2 c κs = search needs
+
+add-write-u64 : tie.Need-add-write-u64 Inv-loop μ-loop
+add-write-u64 c = search needs
+
+mul-write-u64 : tie.Need-mul-write-u64 Inv-loop μ-loop
+mul-write-u64 c = search needs
+
+element-copy-out-write-u64 : tie.Need-element-copy-out-write-u64 Inv-loop μ-loop
+element-copy-out-write-u64 c = search needs
+
+write-u64-requires : tie.Need-write-u64-requires Inv-loop μ-loop
+write-u64-requires c κs = search needs
+
+add-write-u64-2 : tie.Need-add-write-u64-2 Inv-loop μ-loop
+add-write-u64-2 c = search needs
+
+mul-write-u64-2 : tie.Need-mul-write-u64-2 Inv-loop μ-loop
+mul-write-u64-2 c = search needs
+
+element-copy-out-write-u64-2 : tie.Need-element-copy-out-write-u64-2 Inv-loop μ-loop
+element-copy-out-write-u64-2 c = search needs
+
+write-u64-requires-2 : tie.Need-write-u64-requires-2 Inv-loop μ-loop
+write-u64-requires-2 c κs = search needs
 
 add-i : tie.Need-add-i Inv-loop μ-loop
 add-i c = search needs
@@ -55,12 +79,14 @@ loop-less c = search needs
 
 loop-again : tie.Need-loop-again Inv-loop μ-loop
 loop-again c =
-    let call = c .before .before in
-    let at = call .before .before .before .before .loop in
-    let word = call .before .before .before .before .before .before .before in
+    let third = c .before .before in
+    let second = third .before .before .before .before in
+    let first = second .before .before .before .before in
+    let at = first .before .before .before .loop in
+    let word = first .before .before .before .before .before .before in
     let entry = word .before .before .before .before .before .before .before in
     let turn = entries-written (word .write-u32 .last .0) 28 (entry .args .t1 .entries) (at .i) in
-    (search needs, search needs, call .put-entry .ensures ∙ rw (at .inv .2) turn)
+    (search needs, search needs, rw (third .write-u642 .ensures, second .write-u64 .ensures, first .write-u322 .ensures, at .inv .2) turn)
 
 same-length : tie.Need-same-length Inv-loop μ-loop
 same-length c = search needs
@@ -85,11 +111,19 @@ put-clear-spec =
     cast-write-u32
     write-u32-requires
     loop-holds
-    mul-entry
-    element-copy-out-entry
-    mul-put-entry
-    add-put-entry
-    put-entry-requires
+    mul-at
+    add-at
+    mul-write-u32
+    element-copy-out-write-u32
+    write-u32-requires-2
+    add-write-u64
+    mul-write-u64
+    element-copy-out-write-u64
+    write-u64-requires
+    add-write-u64-2
+    mul-write-u64-2
+    element-copy-out-write-u64-2
+    write-u64-requires-2
     add-i
     loop-less
     loop-again
