@@ -1,7 +1,7 @@
 -- LAWS. How a run begins: "sizes are right" over plain lengths, with the product of the logs tested by a division; and the fresh replicas, written
 -- one part after the other.
 use Prim.Native.Nat.{ℕ, suc, _+_, _*_, _/_, _%_, _≤_, _<_}
-use mathlib.Core.Path.{_≡_, refl, sym, ap, _∙_}
+use mathlib.Core.Path.{_≡_, refl, sym, _∙_}
 use mathlib.Core.List.{List, _++_, append-assoc}
 use mathlib.Core.Bool.{Bool, true, _&&_, and-false}
 use native.Mathlib.Nat.{suc-mul, mul-div-cancel-left, mul-mod-right, div-add-mod}

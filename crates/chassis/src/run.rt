@@ -5,10 +5,10 @@ use crate::stepping;
 use crate::steps;
 use replica::words;
 ghost use mathlib.Core.Path.{_≡_};
-ghost use Prim.Native.Nat.{_+_, _*_, _≤_, _<_};
+ghost use Prim.Native.Nat.{_*_, _<_};
 ghost use lib.ListN.{length, replicate};
-ghost use Rattle.chassis_model.specs.Run.{RunOutcome, run-bytes-on, steps-of, State};
-ghost use Rattle.chassis.specs.Turns.{state-of, Given, Ended};
+ghost use Rattle.chassis_model.specs.Run.{RunOutcome, run-bytes-on, steps-of};
+ghost use Rattle.chassis.specs.Turns.{Given, Ended};
 
 // The steps, one turn after the other, from fresh replicas.
 fn run_steps(z: Sizes, bytes: &[u8], words: &mut [u64], logs: &mut [u8], answers: &mut [u64])

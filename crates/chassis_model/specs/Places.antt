@@ -22,7 +22,7 @@ use Rattle.chassis_model.specs.Matches.{Sizes, Matches, reached-N}
 use Rattle.chassis_model.specs.Fresh.{fresh-state, fresh-matches}
 use Rattle.chassis_model.specs.Sends.{call-of, message-sendable, message-readable}
 use Rattle.chassis_model.specs.Made.{next-message, made-of, state-made, declined-made, call-cases}
-use Rattle.chassis_model.specs.Delivered.{turn, state-delivered, turn-stands, none-delivered, one-delivered}
+use Rattle.chassis_model.specs.Delivered.{turn, state-delivered, turn-stands, one-delivered}
 use Rattle.chassis_model.specs.Steps.{made-matches, link-matches}
 use Rattle.chassis_model.specs.Ends.{ends-within, ends-in, end-made, ends-made, end-delivered, ends-delivered}
 
@@ -137,9 +137,6 @@ module _ (r k L : ℕ) (st : State) (places : List ℕ) (h : Reached r k L st pl
   }
 
   -- ---- a deliver: the link's place moves by the length of the message that waits; where none waits, nothing moves
-
-  pub none-reached : (i s : ℕ) → i < r → s < r → N-at r k L st s s ≤ N-at r k L st i s → Reached r k L (delivered r k L i s st .state) places
-  none-reached i s hi hs none = rw (none-delivered r k L st (h .chassis) (h .ledgers) (h .matches) i s hi hs none) h
 
   pub delivered-reached : (i s : ℕ) → i < r → s < r → (i ≡ s → ⊥) → N-at r k L st i s < N-at r k L st s s
       → Reached r k L (delivered r k L i s st .state)

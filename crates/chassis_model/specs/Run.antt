@@ -1,7 +1,7 @@
 -- DEFINITIONS. A run of steps over r replicas and r logs (document 01, "Chassis"): the answer of every step, and the words and log bytes it leaves.
 use Prim.Native.Nat.{ℕ, zero, suc, _+_, _*_, _/_, _%_}
 use mathlib.Core.List.{List, [], _∷_, _++_}
-use mathlib.Core.Bool.{Bool, true, false, not, cond, _&&_, _||_}
+use mathlib.Core.Bool.{Bool, not, cond, _&&_, _||_}
 use lib.ListN.{length, take, drop}
 use lib.Dec.{ltb, eqb}
 use Rattle.protocol.specs.Limits.{output-too-short, no-such-card, wrong-sizes, no-such-step, none-waiting, log-too-short}

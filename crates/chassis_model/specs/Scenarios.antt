@@ -1,8 +1,8 @@
 -- CLAIMS. Document 01's starred orders ("Orders from the bench") as one list under one theorem, computed on the run's definition.
-use Prim.Native.Nat.{ℕ, zero, suc, _+_, _*_}
+use Prim.Native.Nat.{ℕ, _+_, _*_}
 use mathlib.Core.Path.{_≡_, refl}
-use mathlib.Core.List.{List, [], _∷_, _++_, map}
-use mathlib.Core.Bool.{Bool, true, false, _&&_}
+use mathlib.Core.List.{List, [], _∷_, _++_}
+use mathlib.Core.Bool.{Bool, true, _&&_}
 use lib.ListN.{length, replicate}
 use lib.Dec.{eqb}
 use Rattle.protocol.specs.declared.Entry.{Entry}

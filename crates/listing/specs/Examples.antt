@@ -1,8 +1,7 @@
 -- CLAIMS. Document 01's listing, computed on the definition, and inputs that are refused.
-use Prim.Native.Nat.{ℕ, zero, suc, _+_, _*_}
+use Prim.Native.Nat.{ℕ, _+_}
 use mathlib.Core.Path.{_≡_, refl}
 use mathlib.Core.List.{List, [], _∷_, _++_}
-use lib.ListN.{length, replicate, drop}
 use Rattle.protocol.specs.Tables.{put, sum, bits}
 use Rattle.protocol.specs.Entry.{incremented, cleared}
 use Rattle.protocol.specs.Chassis.{count-message, present-entries, clear-message, read-value, read-holders}

@@ -12,7 +12,7 @@ use Rattle.protocol.specs.Tables.{put, put-same, put-at, put-other, put-
 use Rattle.protocol.specs.Entry.{Entry, present, larger, removeIf, raised, finished, incremented, lowered, settled, cleared}
 use Rattle.protocol.specs.Chassis.{ClearEntry, Replica, increment, clearing, cleared-row, taken, count-message, present-entries, clear-message, read-value}
 use Rattle.protocol.specs.Rows.{WellFormed}
-use Rattle.protocol.specs.Algorithm1.{Slot, unmapped, mapped, in-dom, p-of, n-of, c-of, max-of, State, value, reset, inc-generator, inc-effector, triple, triples, reset-generator, reset-one, reset-each, reset-effector, slot-of, state-of, message-of, SomeUnits}
+use Rattle.protocol.specs.Algorithm1.{Slot, unmapped, mapped, in-dom, p-of, n-of, c-of, max-of, State, value, inc-generator, inc-effector, triple, triples, reset-generator, reset-one, reset-each, reset-effector, slot-of, state-of, message-of, SomeUnits}
 
 -- ---- value and generators: they read an entry through its slot alone
 

@@ -1,38 +1,19 @@
 -- LAWS. What the invariant says of links and of cards that are not there: a delivery is enabled exactly when the ledger's link has
 -- something to hand over, a card's own N is the length of its log, and of a card from r on there is nothing.
 use Prim.Native.Nat.{ℕ, zero, suc, _≤_}
-use mathlib.Core.Path.{_≡_, refl, sym, ap, _∙_}
-use mathlib.Core.Bool.{false, not, _&&_, true≢false}
-use mathlib.Core.Logic.{_↔_}
+use mathlib.Core.Path.{_≡_, refl, sym, _∙_}
+use mathlib.Core.Bool.{not, _&&_}
 use mathlib.Core.List.{List, [], _∷_}
 use native.Mathlib.Omega.{arith}
 use lib.Dec.{eqb, ltb, leb·suc-suc}
 use lib.ListN.{length, drop, length-map}
-use borrow.Author.Tests.{lt-ltb, le-ltb, eq-eqb, ltb-false}
+use borrow.Author.Tests.{lt-ltb, le-ltb, eq-eqb}
 use Rattle.protocol.specs.Cases.{by-place}
-use Rattle.protocol.specs.Entry.{Entry, absent}
-use Rattle.protocol.specs.Marks.{Mark, no-messages}
-use Rattle.protocol.specs.EntryLaws.{EntryOk, even, ahead, behind}
-use Rattle.protocol.specs.Ledger.{deliver, Item, Ledger, some-item, link-waits}
+use Rattle.protocol.specs.Marks.{Mark}
+use Rattle.protocol.specs.Ledger.{deliver, Ledger, some-item, link-waits}
 use Rattle.protocol.specs.Chassis.{Chassis, enabled}
-use Rattle.protocol.specs.Chain.{Note, wire, mark-from, mark-at}
-use Rattle.protocol.specs.Pairs.{PairOk}
+use Rattle.protocol.specs.Chain.{Note, wire, mark-at}
 use Rattle.protocol.specs.Steps.{Ok, items}
-
--- ---- where an origin has made nothing
-
-none-seen : (n : ℕ) → mark-at n [] ≡ no-messages
-unfolding mark-from
-none-seen zero = refl
-none-seen (suc n) = refl
-
-none-held : (R X : Mark) (e : Entry) → R ≡ no-messages → X ≡ no-messages → EntryOk R X e → e ≡ absent
-none-held R X e a b (even s i j l) = λ x. record { p = i x; n = j x; c = l x }
-none-held R X e a b (ahead s i j l) = absurd (let c = ap (λ (m : Mark). m .names) a in omega arith)
-none-held R X e a b (behind s i j l) = absurd (let c = ap (λ (m : Mark). m .names) b in omega arith)
-
-none-for : (N C : ℕ) (X : Mark) (e : Entry) → PairOk [] N C X e → e ≡ absent
-none-for N C X e p = none-held (mark-at N []) X e (none-seen N) (p .chain .is-mark ∙ none-seen (p .chain .place)) (p .entry)
 
 -- ---- links
 
@@ -43,24 +24,11 @@ waits-from s zero (t ∷ h) k = sym (lt-ltb 0 (suc (length h)) (omega arith))
 waits-from s (suc n) [] k = sym (le-ltb (suc n) 0 (omega arith))
 waits-from s (suc n) (t ∷ h) k = waits-from s n h k ∙ sym (leb·suc-suc (suc n) (length h))
 
-no-item : (its : List Item) → some-item its ≡ false → its ≡ []
-unfolding some-item
-no-item [] e = refl
-no-item (it ∷ its) e = absurd (true≢false e)
-
 module _ (r q : ℕ) (st : Chassis) (l : Ledger) (k : Ok r q st l) where
   -- the link from s to i has something to hand over exactly if s has made more than i has received
   pub link-waits-is : (i s : ℕ) → (i ≡ s → ⊥) → link-waits i s l ≡ ltb (st .replica i .N s) (st .replica s .N s)
   link-waits-is i s apart =
       rw (k .queues s i apart, k .own s) (waits-from s (st .replica i .N s) (k .notes s) (mark-at (st .replica i .N s) (k .notes s)))
-
-  -- and nothing exactly if i has received all that s has made
-  pub queue-empty : (i s : ℕ) → (i ≡ s → ⊥) → (l .queue s i ≡ []) ↔ (st .replica s .N s ≤ st .replica i .N s)
-  unfolding some-item
-  queue-empty i s apart = (
-    λ e. ltb-false (st .replica i .N s) (st .replica s .N s) (sym (link-waits-is i s apart) ∙ ap some-item e),
-    λ m. no-item (l .queue s i) (link-waits-is i s apart ∙ le-ltb (st .replica i .N s) (st .replica s .N s) m),
-  )
 
   pub deliver-enabled-is : (i s : ℕ) → enabled r (deliver i s) st ≡ ltb i r && (ltb s r && (not (eqb i s) && link-waits i s l))
   unfolding enabled
@@ -74,16 +42,10 @@ module _ (r q : ℕ) (st : Chassis) (l : Ledger) (k : Ok r q st l) where
   pub own-N-is : (j : ℕ) → st .replica j .N j ≡ length (st .log j)
   own-N-is j = k .own j ∙ sym (rw (k .logs j) (length-map (k .notes j) (wire q)))
 
-  -- of a card that is not there: it has made nothing, no card has received anything from it, and no card has an entry for it
+  -- of a card that is not there: it has made nothing, and no card has received anything from it
   module _ (j : ℕ) (far : r ≤ j) where
     pub outside-log : st .log j ≡ []
     outside-log = rw (k .logs j, k .outside j far)
 
     pub outside-N : (i : ℕ) → st .replica i .N j ≡ 0
     outside-N i = let w : st .replica i .N j ≤ length {A = Note} [] = rw (k .outside j far) at (k .cards i .pairs j .within) in omega arith
-
-    pub outside-C : (i : ℕ) → st .replica i .C j ≡ 0
-    outside-C i = k .cards i .pairs j .C-is ∙ rw (k .outside j far, none-seen (st .replica i .N j))
-
-    pub outside-entry : (i : ℕ) → st .replica i .entry q j ≡ absent
-    outside-entry i = none-for (st .replica i .N j) (st .replica i .C j) (k .row i j) (st .replica i .entry q j) (rw (k .outside j far) at (k .cards i .pairs j))

@@ -7,13 +7,12 @@ use mathlib.Core.Bool.{true, false, _&&_, or-false}
 use native.Mathlib.Nat.{mul-le-mul, mul-le-mul-right, mul-comm}
 use native.Mathlib.Omega.{arith}
 use lib.Dec.{leb, eqb}
-use lib.ListN.{length, length-set}
-use lib.Seq.{getD-set-other}
+use lib.ListN.{length}
 use borrow.Author.Tests.{le-leb, lt-leb, eq-eqb, ne-eqb}
 use Rattle.protocol.specs.Limits.{MAX}
 use Rattle.protocol.specs.Cases.{by-test}
 use Rattle.protocol.specs.declared.Entry.{Entry}
-use Rattle.replica_model.specs.Layout.{cards, counters, own-card, head, at-C, at-N, at-entry, C-of, N-of, entry-of, set-C, set-N, set-entry}
+use Rattle.replica_model.specs.Layout.{cards, counters, own-card, head, at-entry, C-of, N-of, entry-of, set-entry}
 use Rattle.replica_model.specs.Store.{three-length, C-entry}
 use Rattle.protocol.specs.Rows.{WellFormed}
 use Rattle.replica_model.specs.RowLaws.{right-facts, below-facts, below-from, row-facts}
@@ -55,14 +54,6 @@ row-kept b b′ r q l e o h = record {
   product = h .product;
   inside = omega arith;
 }
-
-pub row-set-C : (b : List ℕ) (r q j v : ℕ) → Row b r q → Row (set-C j v b) r q
-row-set-C b r q j v h =
-    row-kept b (set-C j v b) r q (length-set b (at-C j) v) (getD-set-other b (at-C j) 0 v 0 (λ e. omega arith)) (getD-set-other b (at-C j) 2 v 0 (λ e. omega arith)) h
-
-pub row-set-N : (b : List ℕ) (r q j v : ℕ) → Row b r q → Row (set-N r j v b) r q
-row-set-N b r q j v h =
-    row-kept b (set-N r j v b) r q (length-set b (at-N r j) v) (getD-set-other b (at-N r j) 0 v 0 (λ e. omega arith)) (getD-set-other b (at-N r j) 2 v 0 (λ e. omega arith)) h
 
 pub row-set-entry : (b : List ℕ) (r q j : ℕ) (e : Entry) → Row b r q → Row (set-entry r q j e b) r q
 row-set-entry b r q j e h =

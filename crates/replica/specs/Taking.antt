@@ -8,9 +8,9 @@ use native.Mathlib.Omega.{arith}
 use lib.Dec.{leb, ltb, eqb}
 use lib.ListN.{length, take, replicate}
 use lib.Seq.{take-append-seam}
-use borrow.Author.Tests.{ltb-true, eq-eqb, ne-eqb}
+use borrow.Author.Tests.{ltb-true, ne-eqb}
 use Rattle.protocol.specs.Limits.{card-limit, not-well-formed, no-such-counter, no-such-card, repeated, early, implausible}
-use Rattle.protocol.specs.Cases.{by-place, by-test, and-left, and-right}
+use Rattle.protocol.specs.Cases.{by-place, and-left, and-right}
 use Rattle.protocol.specs.declared.ClearEntry.{ClearEntry}
 use Rattle.protocol.specs.Chassis.{increment, clearing}
 use Rattle.protocol.specs.Stores.{CardsBelow, taken-words}
@@ -149,9 +149,6 @@ module _ (b : List ℕ) (q sender sequence : ℕ) (known : Bool) where
     -- the places that the effectors read
     pub sender-inside : at-C sender < length b
     sender-inside = let i = in-row in let card = h .card in omega arith
-
-    pub own-inside : at-C (own-card b) < length b
-    own-inside = let i = in-row in omega arith
 
     pub receives : Receives b (cards b) q sender
     receives = let card = sender-facts in record { row = in-row; card = h .card; N-room = omega arith }

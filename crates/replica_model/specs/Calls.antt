@@ -1,9 +1,9 @@
 -- DEFINITIONS. What each call of a card answers and leaves (document 01, "Book", "Count, clear, take, read", "When a call declines").
 -- The refusals stand in document 01's order: the first check that fails gives the number.
-use Prim.Native.Nat.{ℕ, zero, suc, _+_, _-_, _*_}
-use mathlib.Core.List.{List, [], _∷_, _++_}
-use mathlib.Core.Bool.{Bool, true, false, not, cond, _&&_, _||_}
-use lib.ListN.{length, take, drop}
+use Prim.Native.Nat.{ℕ, zero, suc, _+_, _-_}
+use mathlib.Core.List.{List, [], _∷_}
+use mathlib.Core.Bool.{Bool, true, not, cond, _&&_, _||_}
+use lib.ListN.{length, take}
 use lib.Dec.{leb, ltb, eqb}
 use Rattle.protocol.specs.Limits.{MAX, card-limit, counter-limit, wrong-replica, not-well-formed, no-such-counter, no-more-messages, output-too-short, unreadable, no-such-card, repeated, early, implausible}
 use Rattle.protocol.specs.declared.Entry.{Entry}

@@ -1,18 +1,18 @@
 -- LAWS. The layout is a store (`layout`): what each accessor finds after each setter. Everything above uses these laws and no offset.
 use Prim.Native.Nat.{ℕ, zero, suc, _+_, _-_, _*_, _≤_, _<_}
-use mathlib.Core.Path.{_≡_, refl, sym, ap, _∙_}
+use mathlib.Core.Path.{_≡_, refl, ap, _∙_}
 use mathlib.Core.Logic.{_≢_}
-use mathlib.Core.List.{List, [], _∷_, _++_}
+use mathlib.Core.List.{List, [], _∷_}
 use native.Mathlib.Nat.{mul-le-mul-right}
 use native.Mathlib.Omega.{arith}
-use lib.ListN.{length, getD, set, replicate, length-set, length-append, length-replicate}
+use lib.ListN.{length, getD, set, replicate, length-set, length-replicate}
 use lib.Seq.{getD-set-same, getD-set-other, getD-append-add}
 use Rattle.protocol.specs.Cases.{by-place, by-le}
 use Rattle.protocol.specs.Tables.{put, put-same, put-other, put-same-row, put-other-row}
 use Rattle.protocol.specs.declared.Entry.{Entry}
 use Rattle.protocol.specs.Chassis.{fresh-replica}
 use Rattle.protocol.specs.Stores.{Store, Shows}
-use Rattle.replica_model.specs.Layout.{head, replica-length, at-C, at-N, cell, at-entry, C-of, N-of, entry-from, entry-of, set-C, set-N, three, set-entry, fresh-words}
+use Rattle.replica_model.specs.Layout.{head, replica-length, at-C, at-N, cell, at-entry, C-of, N-of, entry-of, set-C, set-N, three, set-entry, fresh-words}
 
 -- ---- which entry is where: the one place with products
 

@@ -1,9 +1,8 @@
 -- CLAIMS. Worked examples, computed: document 01's first increment, clears of 0, 1 and 16 entries, and bytes that do not read.
 use mathlib.Core.Path.{_≡_, refl}
 use mathlib.Core.List.{List, [], _∷_, _++_}
-use mathlib.Core.Bool.{Bool, true, false}
 use Prim.Native.Nat.{ℕ, zero, suc, _+_}
-use lib.ListN.{length, replicate}
+use lib.ListN.{length}
 use Rattle.protocol.specs.declared.ClearEntry.{ClearEntry}
 use Rattle.wire.specs.Number.{number-at, bytes-of}
 use Rattle.wire.specs.Message.{Message, message-bytes, header-bytes, increment-bytes, entry-bytes, entries-bytes, clear-bytes, header-in-range, increment-in-range, clear-in-range, entry-in-range, entries-in-range, unused, in-range, increment-message, clear-message, entries-at, called-length, message-at, reads, read-message, no-message, front-length}

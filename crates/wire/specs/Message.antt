@@ -2,7 +2,7 @@
 -- A message has one form only as a struct: what its kind does not use is 0, and so are the entries past its length.
 use Prim.Native.Nat.{ℕ, zero, suc, _+_, _-_, _*_}
 use mathlib.Core.List.{List, [], _∷_, _++_}
-use mathlib.Core.Bool.{Bool, true, false, cond, _&&_, _||_}
+use mathlib.Core.Bool.{Bool, true, cond, _&&_, _||_}
 use lib.ListN.{length, getD, take, drop, replicate}
 use lib.Dec.{leb, ltb, eqb}
 use Rattle.protocol.specs.Limits.{MAX, card-limit, counter-limit, output-too-short, unreadable}

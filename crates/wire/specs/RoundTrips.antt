@@ -19,7 +19,7 @@ use Rattle.wire.specs.Lists.{parts-join}
 use Rattle.wire.specs.NumberLaws.{Bytes, length-bytes-of, number-at-left, number-at-right, number-at-bytes-of, bytes-of-number-at}
 use Rattle.wire.specs.EntriesLaws.{entries-at-more, length-entries-at, length-entries-bytes}
 use Rattle.wire.specs.WriteLaws.{length-header-bytes, length-clear-bytes, length-message-bytes}
-use Rattle.wire.specs.Bounds.{HeaderBounds, IncrementBounds, EntryBounds, Facts, facts, entries-bounds, kind-right, by-form, len-few, increment-entries, clear-entries}
+use Rattle.wire.specs.Bounds.{HeaderBounds, IncrementBounds, EntryBounds, entries-bounds, kind-right, by-form, len-few, increment-entries, clear-entries}
 use Rattle.wire.specs.MessageLaws.{accepted, called-length-least}
 
 -- ---- entries written and read
@@ -382,10 +382,6 @@ module _ (s : List ℕ) (h : reads s ≡ true) where
       (λ other.
       let kind = kind-other (int-at s 4) (readable s h .kind) other in
       rw (read-increment s other, ne-eqb (int-at s 4) clear-kind other, kind))
-
--- the plain bounds of a message that was read
-pub read-facts : (s : List ℕ) → reads s ≡ true → Facts (message-at s)
-read-facts s h = facts (message-at s) (message-full s h) (readable s h .fits)
 
 -- an answer with a message says that the bytes read as it
 pub read-as : (s : List ℕ) (m : Message) → read-message s ≡ accepted m → (reads s ≡ true) × (message-at s ≡ m)

@@ -127,6 +127,7 @@ pub fn entry_of(bytes: &[u8], i: usize) -> ClearEntry
     reader::entry_from(bytes, ENTRIES_AT + ENTRY_LENGTH * i)
 }
 
+// The message that bytes stand for, where they read, with all of its entries.
 fn message_from(bytes: &[u8], header: Header) -> Message
     requires { ⌜ (reads (now bytes) ≡ true) × (header ≡ header-at (now bytes)) ⌝ }
     ensures { λ m. ⌜ m ≡ message-at (now (bytes .entry)) ⌝ }

@@ -27,7 +27,7 @@ ghost use lib.Dec.{eqb};
 ghost use lib.ListN.{length};
 ghost use lib.Seq.{sets};
 ghost use Rattle.wire.specs.Number.{unsigned-int, unsigned-hyper};
-ghost use Rattle.wire.specs.Message.{WriteOutcome, over, message-bytes, increment-message, in-range, write-message};
+ghost use Rattle.wire.specs.Message.{WriteOutcome, over, message-bytes, increment-message, write-message};
 ghost use Rattle.wire.specs.Ranges.{entry-fits};
 
 fn put_header(version: u32, kind: u32, sender: u32, sequence: u64, counter: u32, out: &mut [u8])

@@ -1,7 +1,7 @@
 -- The message holds the entries so far, and the flags are what is found of them; then the number of the shared checks, and past both the effector
 -- leaves what `taking` says.
 use Prim.Native.Nat.{_+_, _-_, _*_, _≤_}
-use mathlib.Core.Path.{_≡_, refl, sym, _∙_}
+use mathlib.Core.Path.{_≡_, sym, _∙_}
 use mathlib.Core.List.{_++_}
 use native.Mathlib.Omega.{arith}
 use lib.Dec.{ltb}
