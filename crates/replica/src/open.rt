@@ -36,8 +36,7 @@ fn write_fresh(words: &mut [u64], cards: u64, counters: u64, own: u64)
     words::set_head(words, cards, counters, own);
 }
 
-// Ruled out: a refusal that has already written a word, a fresh replica of another card
-//.
+// Ruled out: a refusal that has already written a word, a fresh replica of another card.
 pub fn open(words: &mut [u64], cards: u64, counters: u64, own: u64) -> u64
     ensures { λ a. ⌜ _≡_ {A = OpenOutcome} (record { number = a; words = now (words .exit) }) (open-on (now (words .entry)) cards counters own) ⌝ }
 {
