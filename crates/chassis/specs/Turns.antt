@@ -113,7 +113,7 @@ module _ (z : Sizes) (words logs places : List ℕ) (g : Given z words logs plac
       → at + answer .length ≤ z .capacity
   made-place counts card counter at answer b log below here done =
       let did = made-did counts card counter at _ answer b log below here done refl in
-      let few = g .reached .matches .sizes .few-cards in
+      let few = g .reached .matches .cards .sizes .few-cards in
       let inside : 16 * card + card < length places = omega (arith, g .reached .places-are .size) in
       rw (getD-set-same places (16 * card + card) (at + answer .length) 0 inside) at
       (place-inside (z .cards) (z .counters) (z .capacity) _ _ (did .given .reached) card card below below)

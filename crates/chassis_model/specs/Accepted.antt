@@ -1,4 +1,5 @@
--- LAWS. A message that is Algorithm 1's, plausible and the next of its sender passes every check of take: stated of any replica and any message.
+-- LAWS. A message that the chassis sends, at any replica: another card's passes every check of take up to the sequence, and all of them where it is plausible
+-- and the next of its sender; the card's own is refused with 7.
 use Prim.Native.Nat.{ℕ, _+_, _-_, _≤_, _<_}
 use mathlib.Core.Path.{_≡_, refl, sym, ap, _∙_}
 use mathlib.Core.Bool.{Bool, true, false, not, _||_}
@@ -8,6 +9,7 @@ use lib.ListN.{length, take, replicate}
 use lib.Dec.{eqb, ltb, leb}
 use lib.Seq.{take-append-seam}
 use borrow.Author.Tests.{lt-ltb, le-ltb, le-leb, eq-eqb, ne-eqb}
+use Rattle.protocol.specs.Limits.{no-such-card}
 use Rattle.protocol.specs.Cases.{by-place, and-yes, and-no-right}
 use Rattle.protocol.specs.declared.ClearEntry.{ClearEntry}
 use Rattle.protocol.specs.Chassis.{Message, increment, clearing}
@@ -16,25 +18,18 @@ use Rattle.protocol.specs.Stores.{CardsBelow}
 use Rattle.protocol.specs.Refusals.{Plausible, PlausibleEntries}
 use Rattle.wire.specs.declared.Message as wire
 use Rattle.wire.specs.Message as form
-use Rattle.wire.specs.Message.{no-entry, increment-message, message-bytes, message-at, reads}
+use Rattle.wire.specs.Message.{no-entry, increment-message, message-bytes, message-at}
 use Rattle.wire.specs.RoundTrips.{read-as}
 use Rattle.wire.specs.Claims.{written-reads}
-use Rattle.replica_model.specs.Layout.{cards, counters, own-card, C-of, N-of}
-use Rattle.replica_model.specs.Calls.{on-wire, content, right, row-well-formed, all-entries, cards-known, plausible, entry-plausible, increment-implausible, taking, take-on}
-use Rattle.replica_model.specs.Terms.{Right, RowOf}
+use Rattle.replica_model.specs.Layout.{cards, own-card, C-of, N-of}
+use Rattle.replica_model.specs.Calls.{on-wire, not-taken, all-entries, cards-known, plausible, entry-plausible, increment-implausible, take-on}
+use Rattle.replica_model.specs.Terms.{Right, RowOf, Addressed}
 use Rattle.replica_model.specs.RowLaws.{right-from, row-from}
+use Rattle.replica_model.specs.Exact.{refusal-given, take-decided}
 use Rattle.chassis_model.specs.LogLaws.{Readable}
 use Rattle.chassis_model.specs.Numbered.{Sendable, sendable-counter, start-flag, content-on-wire, on-wire-sender, on-wire-sequence, on-wire-counter}
-use Rattle.chassis_model.specs.Matches.{Heads}
+use Rattle.chassis_model.specs.InStep.{Heads}
 use Rattle.chassis_model.specs.Moves.{words-after}
-
--- all checks pass
-all-pass : (b : List ℕ) (x : wire.Message) → right b ≡ true → reads (message-bytes x) ≡ true → message-at (message-bytes x) ≡ x
-    → ltb (x .counter) (counters b) ≡ true → row-well-formed b (x .counter) ≡ true → cards-known b x ≡ true
-    → ltb (N-of (cards b) b (x .sender)) (x .sequence) ≡ true → leb (x .sequence) (N-of (cards b) b (x .sender) + 1) ≡ true → plausible b x ≡ true
-    → take-on b (message-bytes x) ≡ record { answer = record { number = 0; sequence = x .sequence }; words = words-after (x .sender) (content x) b }
-unfolding take-on taking words-after
-all-pass b x a c d e f g h i j = rw (a, c, d, e, f, g, h, i, j)
 
 -- ---- the checks, of a message on the wire
 
@@ -101,23 +96,55 @@ plausible-pass b r k i s n C (increment q w p start) own ci cs sends fits =
 plausible-pass b r k i s n C (clearing q ts) own ci cs sends fits =
     rw (take-append-seam ts (replicate (16 - length ts) no-entry)) (entries-pass b i s C ts own ci cs fits)
 
--- card s's next message m is taken by card i
-pub take-accepted : (r k i s : ℕ) (b : List ℕ) (m : Message) (C : ℕ → ℕ) → Heads r k i b → Right b → s < r → (i ≡ s → ⊥) → Sendable r k m → RowOf b (counter-of m)
-    → C-of b i ≡ C i → C-of b s ≡ C s → Plausible i s C m → Readable (on-wire s (N-of r b s + 1) m)
+-- ---- the message
+
+-- Before the sequence is looked at nothing speaks against a message of another card that the chassis sends.
+pub addressed : (r k i s n : ℕ) (b : List ℕ) (m : Message) → Heads r k i b → Right b → s < r → (i ≡ s → ⊥) → Sendable r k m → RowOf b (counter-of m)
+    → Readable (on-wire s n m) → Addressed b (message-bytes (on-wire s n m))
+addressed r k i s n b m h f hs apart sends w good =
+    let x = on-wire s n m in
+    let from = on-wire-sender s n m in
+    let counter = on-wire-counter s n m in
+    let written = read-as (message-bytes x) x (written-reads x (good .held) (good .fits)) in
+    record {
+      replica = right-from b f;
+      message = written .0;
+      counter = rw (written .1, counter, h .counters-are) (sendable-counter r k m sends);
+      row = rw (written .1, counter) (row-from b (counter-of m) w);
+      known = rw (written .1) (cards-pass b x k m (rw (from, h .cards-are) hs) (rw (from, h .own-is) (λ e. apart (sym e))) (rw (h .cards-are) sends) (on-wire-entries s n m));
+    }
+
+-- A card's own message, handed back to it, is refused with 7.
+pub own-refused : (r k i s n : ℕ) (b : List ℕ) (m : Message) → Heads r k i b → Right b → s < r → i ≡ s → Sendable r k m → RowOf b (counter-of m)
+    → Readable (on-wire s n m) → take-on b (message-bytes (on-wire s n m)) ≡ not-taken no-such-card b
+unfolding cards-known
+own-refused r k i s n b m h f hs own sends w good =
+    let x = on-wire s n m in
+    let from = on-wire-sender s n m in
+    let counter = on-wire-counter s n m in
+    let written = read-as (message-bytes x) x (written-reads x (good .held) (good .fits)) in
+    refusal-given (take-decided b (message-bytes x)) no-such-card (λ e. omega arith)
+    (rw (written .1, from, counter, h .counters-are, h .cards-are, h .own-is)
+    (right-from b f, (written .0, (lt-ltb (counter-of m) k (sendable-counter r k m sends), (row-from b (counter-of m) w, rw (lt-ltb s r hs, eq-eqb s i (sym own)))))))
+
+-- Card s's next message m is taken by card i.
+pub take-accepted : (r k i s : ℕ) (b : List ℕ) (m : Message) (C : ℕ → ℕ) → Heads r k i b → Sendable r k m
+    → C-of b i ≡ C i → C-of b s ≡ C s → Plausible i s C m → Readable (on-wire s (N-of r b s + 1) m) → Addressed b (message-bytes (on-wire s (N-of r b s + 1) m))
     → take-on b (message-bytes (on-wire s (N-of r b s + 1) m))
     ≡ record { answer = record { number = 0; sequence = N-of r b s + 1 }; words = words-after s m b }
-take-accepted r k i s b m C h f hs apart sends w ci cs fits good =
+unfolding words-after
+take-accepted r k i s b m C h sends ci cs fits good a =
     let n = N-of r b s + 1 in
     let x = on-wire s n m in
     let from = on-wire-sender s n m in
     let number = on-wire-sequence s n m in
-    let counter = on-wire-counter s n m in
-    let written = read-as (message-bytes x) x (written-reads x (good .held) (good .fits)) in
-    all-pass b x (right-from b f) (written .0) (written .1)
-    (rw (counter, h .counters-are) (lt-ltb (counter-of m) k (sendable-counter r k m sends)))
-    (rw counter (row-from b (counter-of m) w))
-    (cards-pass b x k m (rw (from, h .cards-are) hs) (rw (from, h .own-is) (λ e. apart (sym e))) (rw (h .cards-are) sends) (on-wire-entries s n m))
-    (rw (h .cards-are, from, number) (lt-ltb (N-of r b s) n (omega arith)))
-    (rw (h .cards-are, from, number) (le-leb n n (omega arith)))
-    (plausible-pass b r k i s n C m (h .own-is) ci cs sends fits)
-    ∙ rw (from, number, content-on-wire r k s n m sends)
+    let same = read-as (message-bytes x) x (written-reads x (good .held) (good .fits)) .1 in
+    let bytes = message-bytes x in
+    let above : ltb (N-of (cards b) b (message-at bytes .sender)) (message-at bytes .sequence) ≡ true
+    = rw (same, h .cards-are, from, number) (lt-ltb (N-of r b s) n (omega arith)) in
+    let soon : leb (message-at bytes .sequence) (N-of (cards b) b (message-at bytes .sender) + 1) ≡ true
+    = rw (same, h .cards-are, from, number) (le-leb n n (omega arith)) in
+    let likely : plausible b (message-at bytes) ≡ true = rw same (plausible-pass b r k i s n C m (h .own-is) ci cs sends fits) in
+    let d = take-decided b bytes in
+    d .accepted (d .exact 0 .1 (a .replica, (a .message, (lt-ltb _ _ (a .counter), (a .row, (a .known, (above, (soon, (likely, refl)))))))))
+    ∙ rw (same, from, number, content-on-wire r k s n m sends)

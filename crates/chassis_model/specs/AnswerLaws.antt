@@ -1,6 +1,6 @@
 -- LAWS. Every step of a reached state gives the answer that is due (`due-answer`): by its kind, and by the four outcomes of a count or a clear.
-use Prim.Native.Nat.{ℕ, suc, _+_, _-_, _*_, _≤_, _<_}
-use mathlib.Core.Path.{_≡_, refl, ap, _∙_}
+use Prim.Native.Nat.{ℕ, suc, _+_, _-_, _≤_, _<_}
+use mathlib.Core.Path.{_≡_, refl}
 use mathlib.Core.Bool.{Bool, true, false, not, cond, _||_}
 use mathlib.Core.List.{List, [], _∷_, _++_}
 use native.Mathlib.Omega.{arith}
@@ -13,22 +13,18 @@ use Rattle.protocol.specs.Ledger.{Ledger, link-waits}
 use Rattle.protocol.specs.Chassis.{Chassis}
 use Rattle.protocol.specs.Links.{link-waits-is}
 use Rattle.chassis_model.specs.PartLaws.{part-length}
-use Rattle.chassis_model.specs.Run.{Step, State, log-of, N-at, free-from, made, delivered, cards-right, step-on, state-after, answers-of, count-kind, clear-kind, deliver-kind}
+use Rattle.chassis_model.specs.Run.{Step, State, replica-of, log-of, N-at, free-from, made, delivered, cards-right, step-on, state-after, answers-of, count-kind, clear-kind, deliver-kind}
 use Rattle.chassis_model.specs.Answers.{message-size, making-answer, due-answer, run-answer}
-use Rattle.chassis_model.specs.Matches.{Matches, reached-N}
+use Rattle.chassis_model.specs.InStep.{reached-N}
+use Rattle.chassis_model.specs.Matches.{Matches}
 use Rattle.chassis_model.specs.Stepping.{step-of-kind, by-kind}
-use Rattle.chassis_model.specs.Sends.{call-of, message-long}
-use Rattle.chassis_model.specs.Made.{next-size, made-cases}
+use Rattle.chassis_model.specs.Sends.{call-of, size-is}
+use Rattle.chassis_model.specs.Made.{made-cases}
 use Rattle.chassis_model.specs.Delivered.{none-delivered, one-delivered}
 use Rattle.chassis_model.specs.Ends.{ends-within}
-use Rattle.chassis_model.specs.Reads.{holders-counted}
 
 module _ (r k L : ℕ) (st : State) (ch : Chassis) (ls : ℕ → Ledger) (h : Matches r k L st ch ls) where
   -- ---- count and clear
-
-  size-is : (counts : Bool) (i q : ℕ) → i < r → q < k → N-at r k L st i i < MAX → next-size r k L st ch counts i q ≡ message-size r counts i (ls q)
-  size-is true i q hi hq few = message-long r k L st ch ls h true i q hi hq few
-  size-is false i q hi hq few = message-long r k L st ch ls h false i q hi hq few ∙ ap (λ (n : ℕ). 28 + 20 * n) (holders-counted r k L st ch ls h i q hi hq)
 
   made-answer : (counts : Bool) (i q : ℕ) → i < r
       → made r k L i (call-of counts q) st .answer ≡ making-answer k L q (N-at r k L st i i) (free-from r k L st i) (message-size r counts i (ls q))
@@ -45,29 +41,29 @@ module _ (r k L : ℕ) (st : State) (ch : Chassis) (ls : ℕ → Ledger) (h : Ma
       (λ a. rw (le-ltb q k a))
       (λ a b. rw (lt-ltb q k a, eq-eqb N MAX b))
       (λ a b c.
-      let e = size-is counts i q hi a b in
+      let e = size-is r k (replica-of r k L st) ch ls (h .cards) counts i q hi a b in
       rw (lt-ltb q k a, ne-eqb N MAX (λ d. omega arith), lt-leb (used + size) L (omega arith)))
       (λ a b c.
-      let e = size-is counts i q hi a b in
+      let e = size-is r k (replica-of r k L st) ch ls (h .cards) counts i q hi a b in
       rw (lt-ltb q k a, ne-eqb N MAX (λ d. omega arith), le-leb (used + size) L (omega arith)))
 
   -- ---- deliver
 
   link-answer : (any i s : ℕ) → i < r → s < r → (i ≡ s → ⊥) → delivered r k L i s st .answer ≡ cond (link-waits i s (ls any)) 0 none-waiting
   link-answer any i s hi hs apart =
-      let here = reached-N r k L st ch ls h i s hi hs in
-      let there = reached-N r k L st ch ls h s s hs hs in
+      let here = reached-N r k (replica-of r k L st) ch ls (h .cards) i s hi hs in
+      let there = reached-N r k (replica-of r k L st) ch ls (h .cards) s s hs hs in
       by-le (suc (N-at r k L st i s)) (N-at r k L st s s)
       (λ waits. rw (
         one-delivered r k L st ch ls h i s hi hs waits apart,
-        link-waits-is r any ch (ls any) (h .oks any) i s apart,
+        link-waits-is r any ch (ls any) (h .cards .oks any) i s apart,
         lt-ltb (ch .replica i .N s) (ch .replica s .N s) (rw (here, there) at waits),
       ))
       (λ none.
       let none′ : N-at r k L st s s ≤ N-at r k L st i s = omega arith in
       rw (
         none-delivered r k L st ch ls h i s hi hs none′,
-        link-waits-is r any ch (ls any) (h .oks any) i s apart,
+        link-waits-is r any ch (ls any) (h .cards .oks any) i s apart,
         le-ltb (ch .replica i .N s) (ch .replica s .N s) (rw (here, there) at none′),
       ))
 

@@ -1,31 +1,25 @@
 -- LAWS. A deliver step in a reached state: it is accepted exactly when a message waits, and the state after it matches.
-use Prim.Native.Nat.{ℕ, suc, _+_, _*_, _≤_, _<_}
-use mathlib.Core.Path.{_≡_, refl}
+use Prim.Native.Nat.{ℕ, _+_, _*_, _≤_, _<_}
+use mathlib.Core.Path.{_≡_}
 use native.Mathlib.Omega.{arith}
-use lib.ListN.{length, getD}
+use lib.ListN.{length}
 use borrow.Author.Tests.{lt-ltb, le-ltb}
 use Rattle.protocol.specs.Limits.{none-waiting}
 use Rattle.protocol.specs.Tables.{put, put-same}
 use Rattle.protocol.specs.Ledger.{Ledger}
 use Rattle.protocol.specs.Chassis as protocol
-use Rattle.protocol.specs.Chassis.{Message, no-message, Chassis}
-use Rattle.protocol.specs.Chain.{counter-of}
-use Rattle.protocol.specs.Refusals.{Plausible, waiting-plausible}
+use Rattle.protocol.specs.Chassis.{Message, Chassis}
 use Rattle.replica_model.specs.Layout.{replica-length}
-use Rattle.replica_model.specs.Calls.{on-wire, take-on}
+use Rattle.replica_model.specs.Calls.{on-wire}
 use Rattle.chassis_model.specs.Parts.{put-part}
 use Rattle.chassis_model.specs.PartLaws.{part-put, put-part-length}
-use Rattle.chassis_model.specs.Log.{waiting-part}
 use Rattle.chassis_model.specs.Run.{State, replica-of, log-of, N-at, delivered}
-use Rattle.chassis_model.specs.LogLaws.{Readable, Stands, stands-in-log}
-use Rattle.chassis_model.specs.Numbered.{wire-log, wire-log-at, length-numbered, Sendable, sendable-counter}
-use Rattle.chassis_model.specs.Matches.{Alike, Matches, reached-right, reached-row, reached-N, made-all}
-use Rattle.chassis_model.specs.Moves.{words-after, delivered-alike, alike-same}
-use Rattle.chassis_model.specs.Accepted.{take-accepted}
-
--- the message of s whose turn it is at i
-abbrev pub turn : Chassis → ℕ → ℕ → Message
-turn ch i s = getD (ch .log s) (ch .replica i .N s) no-message
+use Rattle.chassis_model.specs.LogLaws.{Stands, stands-in-log}
+use Rattle.chassis_model.specs.Numbered.{wire-log, wire-log-at, length-numbered}
+use Rattle.chassis_model.specs.InStep.{Alike, reached-N, made-all}
+use Rattle.chassis_model.specs.Matches.{Holds, Matches}
+use Rattle.chassis_model.specs.Moves.{words-after, alike-same}
+use Rattle.chassis_model.specs.Takes.{turn, turn-taken, delivered-here}
 
 -- the state with card s's message m taken by card i
 abbrev pub state-delivered : ℕ → ℕ → ℕ → State → ℕ → ℕ → Message → State
@@ -40,58 +34,42 @@ module _ (r k L : ℕ) (st : State) (ch : Chassis) (ls : ℕ → Ledger) (h : Ma
     -- it is one of the messages that s has made
     waits-in-log : ch .replica i .N s < length (ch .log s)
     waits-in-log =
-        let a = reached-N r k L st ch ls h i s hi hs in
-        let b = reached-N r k L st ch ls h s s hs hs in
-        let c = made-all r k L st ch ls h s in
+        let a = reached-N r k (replica-of r k L st) ch ls (h .cards) i s hi hs in
+        let b = reached-N r k (replica-of r k L st) ch ls (h .cards) s s hs hs in
+        let c = made-all r k (replica-of r k L st) ch ls (h .cards) s in
         omega arith
 
     -- where it stands
     pub turn-stands : Stands (log-of r k L st s) (N-at r k L st i s) (on-wire s (N-at r k L st i s + 1) (turn ch i s))
     turn-stands =
-        let on = h .alike .holds s hs in
-        rw (reached-N r k L st ch ls h i s hi hs, ← (wire-log-at s (ch .log s) (ch .replica i .N s) waits-in-log))
-        (stands-in-log (wire-log s (ch .log s)) (on .rest) (log-of r k L st s) (on .bytes) (on .readable) (ch .replica i .N s)
+        let on = h .holds s hs in
+        rw (reached-N r k (replica-of r k L st) ch ls (h .cards) i s hi hs, ← (wire-log-at s (ch .log s) (ch .replica i .N s) waits-in-log))
+        (stands-in-log (wire-log s (ch .log s)) (on .rest) (log-of r k L st s) (on .bytes) (h .cards .alike .readable s hs) (ch .replica i .N s)
         (rw (length-numbered s 0 (ch .log s)) waits-in-log))
 
-    turn-readable : Readable (on-wire s (N-at r k L st i s + 1) (turn ch i s))
-    turn-readable =
-        rw (reached-N r k L st ch ls h i s hi hs, ← (wire-log-at s (ch .log s) (ch .replica i .N s) waits-in-log))
-        (h .alike .holds s hs .readable (ch .replica i .N s) (rw (length-numbered s 0 (ch .log s)) waits-in-log))
-
-    turn-sendable : Sendable r k (turn ch i s)
-    turn-sendable = h .alike .sendable s hs (ch .replica i .N s) waits-in-log
-
-    turn-plausible : Plausible i s (ch .replica i .C) (turn ch i s)
-    turn-plausible =
-        let q = counter-of (turn ch i s) in
-        waiting-plausible r q ch (ls q) (h .oks q) i s (rw (reached-N r k L st ch ls h i s hi hs, reached-N r k L st ch ls h s s hs hs) at waits) refl
-
     module _ (apart : i ≡ s → ⊥) where
-      turn-taken : take-on (replica-of r k L st i) (waiting-part (suc (N-at r k L st i s)) (log-of r k L st s))
-          ≡ record { answer = record { number = 0; sequence = N-at r k L st i s + 1 }; words = words-after s (turn ch i s) (replica-of r k L st i) }
-      turn-taken =
-          rw (turn-stands .waits)
-          (take-accepted r k i s (replica-of r k L st i) (turn ch i s) (ch .replica i .C) (h .alike .heads i hi) (reached-right r k L st ch ls h i hi) hs apart turn-sendable
-          (reached-row r k L st ch ls h i (counter-of (turn ch i s)) hi (sendable-counter r k (turn ch i s) turn-sendable))
-          (h .alike .shows i hi .Cs i hi) (h .alike .shows i hi .Cs s hs) turn-plausible turn-readable)
-
       pub one-delivered : delivered r k L i s st ≡ record { answer = 0; state = state-delivered r k L st i s (turn ch i s) }
       unfolding delivered
-      one-delivered = rw (lt-ltb (N-at r k L st i s) (N-at r k L st s s) waits, turn-taken)
+      one-delivered =
+          rw (lt-ltb (N-at r k L st i s) (N-at r k L st s s) waits, turn-stands .waits, turn-taken r k (replica-of r k L st) ch ls (h .cards) i s hi hs apart waits-in-log)
 
-      taken-alike : Alike r k (put i (words-after s (turn ch i s) (replica-of r k L st i)) (replica-of r k L st)) (log-of r k L st) (protocol.delivered i s ch)
-      taken-alike = delivered-alike r k (replica-of r k L st) (log-of r k L st) ch (h .sizes) (h .alike) i s hi hs apart waits-in-log
+      taken-here : Alike r k (put i (words-after s (turn ch i s) (replica-of r k L st i)) (replica-of r k L st)) (protocol.delivered i s ch)
+      taken-here = delivered-here r k (replica-of r k L st) ch ls (h .cards) i s hi hs apart waits-in-log
 
       taken-length : length (words-after s (turn ch i s) (replica-of r k L st i)) ≡ replica-length r k
-      taken-length = rw (put-same i (words-after s (turn ch i s) (replica-of r k L st i)) (replica-of r k L st)) at (taken-alike .shows i hi .fits)
+      taken-length = rw (put-same i (words-after s (turn ch i s) (replica-of r k L st i)) (replica-of r k L st)) at (taken-here .shows i hi .fits)
 
       -- the state after it is that of the chassis after it
       pub delivered-fits : length (state-delivered r k L st i s (turn ch i s) .words) ≡ r * replica-length r k
       delivered-fits = put-part-length r (replica-length r k) i (words-after s (turn ch i s) (replica-of r k L st i)) (st .words) (h .words-fit) hi taken-length
 
-      pub delivered-is-alike : Alike r k (replica-of r k L (state-delivered r k L st i s (turn ch i s))) (log-of r k L st) (protocol.delivered i s ch)
+      pub delivered-is-alike : Alike r k (replica-of r k L (state-delivered r k L st i s (turn ch i s))) (protocol.delivered i s ch)
       delivered-is-alike =
           alike-same r k (put i (words-after s (turn ch i s) (replica-of r k L st i)) (replica-of r k L st)) (replica-of r k L (state-delivered r k L st i s (turn ch i s)))
-          (log-of r k L st) (log-of r k L st) (protocol.delivered i s ch)
+          (protocol.delivered i s ch)
           (λ j l. part-put r (replica-length r k) i (words-after s (turn ch i s) (replica-of r k L st i)) (st .words) (h .words-fit) hi taken-length j)
-          (λ j l. refl) taken-alike
+          taken-here
+
+      pub delivered-holds : (j : ℕ) → j < r → Holds (log-of r k L (state-delivered r k L st i s (turn ch i s)) j) (wire-log j (protocol.delivered i s ch .log j))
+      unfolding protocol.delivered
+      delivered-holds j l = h .holds j l

@@ -18,12 +18,14 @@ use Rattle.wire.specs.declared.Message as wire
 use Rattle.wire.specs.Message.{called-length, reads, front-length, message-length}
 use Rattle.replica_model.specs.Calls.{on-wire}
 use Rattle.chassis_model.specs.Log.{end-of}
-use Rattle.chassis_model.specs.LogLaws.{Readable, written, end-moves, ends-stay}
+use Rattle.chassis_model.specs.LogLaws.{Readable, AllReadable, written, end-moves, ends-stay}
 use Rattle.chassis_model.specs.Numbered.{wire-log, length-numbered, Sendable}
-use Rattle.chassis_model.specs.Run.{State, log-of, N-at, free-from}
-use Rattle.chassis_model.specs.Matches.{Holds, Matches, reached-N, received-few, made-all}
+use Rattle.chassis_model.specs.Run.{State, replica-of, log-of, N-at, free-from}
+use Rattle.chassis_model.specs.InStep.{reached-N, received-few, made-all}
+use Rattle.chassis_model.specs.Matches.{Holds, Matches}
+use Rattle.chassis_model.specs.Takes.{turn}
 use Rattle.chassis_model.specs.Made.{state-made, log-made, made-alike}
-use Rattle.chassis_model.specs.Delivered.{turn, turn-stands, state-delivered, delivered-is-alike}
+use Rattle.chassis_model.specs.Delivered.{turn-stands, state-delivered, delivered-is-alike}
 
 -- ---- messages end in their log
 
@@ -61,12 +63,12 @@ module _ (i s : ℕ) (m : Message) (replicas : ℕ → Replica) where
 
 -- ---- a message goes to the end of a log
 
-module _ (log : List ℕ) (ms : List wire.Message) (on : Holds log ms) (x : wire.Message) (good : Readable x) (n : ℕ) (all : n ≡ length ms) where
+module _ (log : List ℕ) (ms : List wire.Message) (on : Holds log ms) (readable : AllReadable ms) (x : wire.Message) (good : Readable x) (n : ℕ) (all : n ≡ length ms) where
   end-more : end-of (suc n) (written (end-of n log) x log) ≡ end-of n log + message-length x
-  end-more = rw all (end-moves ms (on .rest) log (on .bytes) (on .readable) x good)
+  end-more = rw all (end-moves ms (on .rest) log (on .bytes) readable x good)
 
   end-same : (n′ : ℕ) → n′ ≤ n → end-of n′ (written (end-of n log) x log) ≡ end-of n′ log
-  end-same n′ l = let l′ : n′ ≤ length ms = omega arith in rw all (ends-stay ms (on .rest) log (on .bytes) (on .readable) x good n′ l′)
+  end-same n′ l = let l′ : n′ ≤ length ms = omega arith in rw all (ends-stay ms (on .rest) log (on .bytes) readable x good n′ l′)
 
 -- ---- a message made by card i
 
@@ -74,17 +76,17 @@ module _ (r k L : ℕ) (st : State) (ch : Chassis) (ls : ℕ → Ledger) (h : Ma
     (few : N-at r k L st i i < MAX) (good : Readable (on-wire i (N-at r k L st i i + 1) m))
     (room : message-length (on-wire i (N-at r k L st i i + 1) m) ≤ length (drop (free-from r k L st i) (log-of r k L st i))) where
   own-all : N-at r k L st i i ≡ length (wire-log i (ch .log i))
-  own-all = reached-N r k L st ch ls h i i hi hi ∙ made-all r k L st ch ls h i ∙ sym (length-numbered i 0 (ch .log i))
+  own-all = reached-N r k (replica-of r k L st) ch ls (h .cards) i i hi hi ∙ made-all r k (replica-of r k L st) ch ls (h .cards) i ∙ sym (length-numbered i 0 (ch .log i))
 
   N-made-here : N-at r k L (state-made r k L st i m) i i ≡ suc (N-at r k L st i i)
   unfolding issued
   N-made-here =
-      made-alike r k L st ch ls h i hi m sends few good room .shows i hi .Ns i hi ∙ N-here i i m (ch .replica) ∙ ap suc (sym (reached-N r k L st ch ls h i i hi hi))
+      made-alike r k L st ch ls h i hi m sends few good room .shows i hi .Ns i hi ∙ N-here i i m (ch .replica) ∙ ap suc (sym (reached-N r k (replica-of r k L st) ch ls (h .cards) i i hi hi))
 
   N-made-there : (j t : ℕ) → j < r → t < r → (j ≡ i → t ≡ i → ⊥) → N-at r k L (state-made r k L st i m) j t ≡ N-at r k L st j t
   unfolding issued
   N-made-there j t hj ht d =
-      made-alike r k L st ch ls h i hi m sends few good room .shows j hj .Ns t ht ∙ N-there i i m (ch .replica) j t d ∙ sym (reached-N r k L st ch ls h j t hj ht)
+      made-alike r k L st ch ls h i hi m sends few good room .shows j hj .Ns t ht ∙ N-there i i m (ch .replica) j t d ∙ sym (reached-N r k (replica-of r k L st) ch ls (h .cards) j t hj ht)
 
   log-here : log-of r k L (state-made r k L st i m) i ≡ written (free-from r k L st i) (on-wire i (N-at r k L st i i + 1) m) (log-of r k L st i)
   log-here = log-made r k L st ch ls h i hi m sends few good room i ∙ put-same i _ (log-of r k L st)
@@ -95,19 +97,19 @@ module _ (r k L : ℕ) (st : State) (ch : Chassis) (ls : ℕ → Ledger) (h : Ma
   -- what a card has received is no more than i had made
   received-before : (j : ℕ) → j < r → N-at r k L st j i ≤ N-at r k L st i i
   received-before j hj =
-      rw (reached-N r k L st ch ls h j i hj hi, reached-N r k L st ch ls h i i hi hi, made-all r k L st ch ls h i) (received-few r k L st ch ls h j i)
+      rw (reached-N r k (replica-of r k L st) ch ls (h .cards) j i hj hi, reached-N r k (replica-of r k L st) ch ls (h .cards) i i hi hi, made-all r k (replica-of r k L st) ch ls (h .cards) i) (received-few r k (replica-of r k L st) ch ls (h .cards) j i)
 
   pub end-made : ends-in r k L (state-made r k L st i m) i i ≡ ends-in r k L st i i + message-length (on-wire i (N-at r k L st i i + 1) m)
   end-made =
       rw (N-made-here, log-here)
-      (end-more (log-of r k L st i) (wire-log i (ch .log i)) (h .alike .holds i hi) (on-wire i (N-at r k L st i i + 1) m) good (N-at r k L st i i) own-all)
+      (end-more (log-of r k L st i) (wire-log i (ch .log i)) (h .holds i hi) (h .cards .alike .readable i hi) (on-wire i (N-at r k L st i i + 1) m) good (N-at r k L st i i) own-all)
 
   pub ends-made : (j t : ℕ) → j < r → t < r → (j ≡ i → t ≡ i → ⊥) → ends-in r k L (state-made r k L st i m) j t ≡ ends-in r k L st j t
   ends-made j t hj ht d =
       rw (N-made-there j t hj ht d)
       (by-place t i
       (λ e. rw (e, log-here)
-      (end-same (log-of r k L st i) (wire-log i (ch .log i)) (h .alike .holds i hi) (on-wire i (N-at r k L st i i + 1) m) good (N-at r k L st i i) own-all
+      (end-same (log-of r k L st i) (wire-log i (ch .log i)) (h .holds i hi) (h .cards .alike .readable i hi) (on-wire i (N-at r k L st i i + 1) m) good (N-at r k L st i i) own-all
       (N-at r k L st j i) (received-before j hj)))
       (λ f. rw (log-there t f)))
 
@@ -119,13 +121,13 @@ module _ (r k L : ℕ) (st : State) (ch : Chassis) (ls : ℕ → Ledger) (h : Ma
   unfolding protocol.delivered
   N-delivered-here =
       delivered-is-alike r k L st ch ls h i s hi hs waits apart .shows i hi .Ns s hs ∙ N-here i s (turn ch i s) (ch .replica)
-      ∙ ap suc (sym (reached-N r k L st ch ls h i s hi hs))
+      ∙ ap suc (sym (reached-N r k (replica-of r k L st) ch ls (h .cards) i s hi hs))
 
   N-delivered-there : (j t : ℕ) → j < r → t < r → (j ≡ i → t ≡ s → ⊥) → N-at r k L (state-delivered r k L st i s (turn ch i s)) j t ≡ N-at r k L st j t
   unfolding protocol.delivered
   N-delivered-there j t hj ht d =
       delivered-is-alike r k L st ch ls h i s hi hs waits apart .shows j hj .Ns t ht ∙ N-there i s (turn ch i s) (ch .replica) j t d
-      ∙ sym (reached-N r k L st ch ls h j t hj ht)
+      ∙ sym (reached-N r k (replica-of r k L st) ch ls (h .cards) j t hj ht)
 
   pub end-delivered : ends-in r k L (state-delivered r k L st i s (turn ch i s)) i s
       ≡ ends-in r k L st i s + message-length (on-wire s (N-at r k L st i s + 1) (turn ch i s))

@@ -18,7 +18,8 @@ use Rattle.chassis_model.specs.Run.{replica-of, log-of, fresh-replicas}
 use Rattle.chassis_model.specs.LogLaws.{log-bytes}
 use Rattle.chassis_model.specs.Numbered.{numbered, wire-log}
 pub use Rattle.chassis_model.specs.Answers.{fresh-state}
-use Rattle.chassis_model.specs.Matches.{Sizes, Heads, Holds, Alike, Matches}
+use Rattle.chassis_model.specs.InStep.{Sizes, Heads, Alike}
+use Rattle.chassis_model.specs.Matches.{Holds, Matches}
 use Rattle.chassis_model.specs.Moves.{alike-same}
 
 -- ---- the parts of the fresh words
@@ -57,13 +58,14 @@ fresh-heads r k i = record { cards-are = refl; counters-are = refl; own-is = ref
 -- a log in which nothing was written
 fresh-holds : (j : ℕ) (log : List ℕ) → Holds log (wire-log j [])
 unfolding numbered log-bytes
-fresh-holds j log = record { rest = log; bytes = refl; readable = λ n l. absurd (omega arith) }
+fresh-holds j log = record { rest = log; bytes = refl }
 
-fresh-alike : (r k : ℕ) (logs : ℕ → List ℕ) → Alike r k (fresh-words r k) logs fresh-chassis
-fresh-alike r k logs = record {
+pub fresh-alike : (r k : ℕ) → Alike r k (fresh-words r k) fresh-chassis
+unfolding numbered
+fresh-alike r k = record {
   heads = λ i l. fresh-heads r k i;
   shows = λ i l. fresh-shows r k i;
-  holds = λ j l. fresh-holds j (logs j);
+  readable = λ j l n m. absurd (omega arith);
   sendable = λ j l n m. absurd (omega arith);
   few = λ j l. omega arith;
 }
@@ -71,11 +73,12 @@ fresh-alike r k logs = record {
 pub fresh-matches : (r k L : ℕ) (logs : List ℕ) → Sizes r k → length logs ≡ r * L
     → Matches r k L (fresh-state r k L logs) fresh-chassis (λ q. empty-ledger)
 fresh-matches r k L logs z fits = record {
-  sizes = z;
   words-fit = fresh-length r k r;
   logs-fit = fits;
-  alike =
-      alike-same r k (fresh-words r k) (replica-of r k L (fresh-state r k L logs)) (log-of r k L (fresh-state r k L logs)) (log-of r k L (fresh-state r k L logs))
-      fresh-chassis (λ i l. fresh-part r k r i l) (λ j l. refl) (fresh-alike r k (log-of r k L (fresh-state r k L logs)));
-  oks = λ q. fresh-ok r q;
+  cards = record {
+    sizes = z;
+    alike = alike-same r k (fresh-words r k) (replica-of r k L (fresh-state r k L logs)) fresh-chassis (λ i l. fresh-part r k r i l) (fresh-alike r k);
+    oks = λ q. fresh-ok r q;
+  };
+  holds = λ j l. fresh-holds j (log-of r k L (fresh-state r k L logs) j);
 }

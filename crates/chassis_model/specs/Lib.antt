@@ -1,5 +1,5 @@
--- A run of steps over replicas and logs. Each file says in its first line what it is: DEFINITIONS and CLAIMS are what a reader has to believe, and LAWS are
--- what the proofs cite. Read `Run`, `Ledger` and `Claims` first.
+-- A run of steps over replicas and logs, and a driver's calls on separate replicas. Each file says in its first line what it is: DEFINITIONS and CLAIMS are what a
+-- reader has to believe, and LAWS are what the proofs cite. Read `Run`, `Ledger` and `Claims` first; for a driver, `Driver` and `DriverClaims`.
 
 -- DEFINITIONS
 pub mod Parts
@@ -7,29 +7,40 @@ pub mod Log
 pub mod Run
 pub mod Ledger
 pub mod Answers
+pub mod Driver
 -- CLAIMS
 pub mod Claims
 pub mod Scenarios
+pub mod DriverClaims
+pub mod DriverExamples
 -- LAWS. Lists in parts, logs of messages.
 pub mod PartLaws
 pub mod LogLaws
 pub mod Numbered
--- A reached state beside the theory's chassis and ledgers; its two moves; what take accepts and what a card sends.
-pub mod Matches
-pub mod Fresh
+-- The cards beside the theory's chassis and ledgers; the two moves; what a card reads, sends and takes.
+pub mod InStep
 pub mod Moves
 pub mod Accepted
+pub mod Reads
 pub mod Sends
--- The steps, each beside the theory's.
+pub mod Takes
+-- A state of a run beside them, and the steps, each beside the theory's.
+pub mod Matches
+pub mod Fresh
 pub mod Stepping
 pub mod Made
 pub mod Delivered
 pub mod Steps
--- What follows: reads, answers, the theorem; and for the code, the places of the links.
-pub mod Reads
+-- What follows: answers, the theorem; and for the code, the places of the links.
 pub mod AnswerLaws
 pub mod Theorem
 pub mod Ends
 pub mod Places
 -- The waiting message by its place.
 pub mod Spans
+-- A driver's cards beside the theory; its calls; what follows.
+pub mod DriverMatches
+pub mod DriverSteps
+pub mod DriverResends
+pub mod DriverSame
+pub mod DriverTheorem

@@ -1,27 +1,27 @@
--- LAWS. The two moves of a run, on words and bytes and on the chassis: a card makes a message, and a card takes the message whose turn it is.
--- Where the words and bytes were the chassis's before, they are after.
+-- LAWS. The two moves, on the words of the cards and on the chassis: a card makes a message, and a card takes the message whose turn it is.
+-- Where the words were the chassis's before, they are after; so an accepted step of the theory leaves words that are in step with it.
 use Prim.Native.Nat.{ℕ, _+_, _<_}
-use mathlib.Core.Path.{_≡_, sym, _∙_}
+use mathlib.Core.Path.{_≡_, _∙_}
+use mathlib.Core.Bool.{true}
 use mathlib.Core.List.{List, [], _∷_, _++_}
-use lib.ListN.{length, getD, drop}
+use lib.ListN.{length, getD}
 use Rattle.protocol.specs.Limits.{MAX}
 use Rattle.protocol.specs.Cases.{by-place}
 use Rattle.protocol.specs.Tables.{put, put-same, put-at, put-other}
 use Rattle.protocol.specs.Lists.{places-more}
-use Rattle.protocol.specs.Chassis.{Message, no-message, Replica, Chassis, taken, issued, delivered}
+use Rattle.protocol.specs.Ledger.{Step, Ledger, fed}
+use Rattle.protocol.specs.Chassis.{Message, no-message, Replica, Chassis, taken, issued, delivered, done, enabled, Offer, stepped}
 use Rattle.protocol.specs.Stores.{Shows, InLimits, taken-words, taken-shows}
 use Rattle.protocol.specs.Steps.{taken-N}
-use Rattle.wire.specs.declared.Message as wire
-use Rattle.wire.specs.Message.{message-bytes}
+use Rattle.protocol.specs.Theorem.{Ok, step-ok}
 use Rattle.replica_model.specs.Layout.{cards, counters}
 use Rattle.replica_model.specs.Store.{layout}
 use Rattle.replica_model.specs.Calls.{on-wire}
 use Rattle.replica_model.specs.Terms.{Right}
 use Rattle.replica_model.specs.Performed.{performed}
-use Rattle.chassis_model.specs.Log.{end-of}
-use Rattle.chassis_model.specs.LogLaws.{Readable, written, readable-more, written-log}
-use Rattle.chassis_model.specs.Numbered.{wire-log, wire-log-append, length-numbered, Sendable, sendable-limits}
-use Rattle.chassis_model.specs.Matches.{Sizes, Heads, Holds, Alike, right-of-words}
+use Rattle.chassis_model.specs.LogLaws.{Readable, AllReadable, readable-more}
+use Rattle.chassis_model.specs.Numbered.{wire-log, wire-log-append, Sendable, sendable-limits}
+use Rattle.chassis_model.specs.InStep.{Sizes, Heads, Alike, InStep, right-of-words}
 
 -- ---- one replica: card s's message m is taken
 
@@ -43,32 +43,21 @@ module _ (r k i s : ℕ) (m : Message) (b : List ℕ) (h : Heads r k i b) (hs : 
   unfolding words-after
   taken-alike c shows = rw (h .cards-are, h .counters-are) (taken-shows r k (layout r k) s m b c hs on shows)
 
--- ---- one log: a message goes to its end
-
-holds-more : (log : List ℕ) (ms : List wire.Message) (x : wire.Message) (n : ℕ) → n ≡ length ms → Holds log ms → Readable x
-    → Holds (written (end-of n log) x log) (ms ++ x ∷ [])
-holds-more log ms x n e h good = rw e (record {
-  rest = drop (length (message-bytes x)) (h .rest);
-  bytes = written-log ms (h .rest) log (h .bytes) (h .readable) x good;
-  readable = readable-more ms x (h .readable) good;
-})
-
 -- ---- the chassis
 
-module _ (r k : ℕ) (replicas logs : ℕ → List ℕ) (ch : Chassis) (z : Sizes r k) (a : Alike r k replicas logs ch) where
+module _ (r k : ℕ) (replicas : ℕ → List ℕ) (ch : Chassis) (z : Sizes r k) (a : Alike r k replicas ch) where
   right : (i : ℕ) → i < r → Right (replicas i)
   right i hi = right-of-words r k i (replicas i) z hi (a .heads i hi) (a .shows i hi .fits)
 
   -- card i makes m, which is its next message
   pub issued-alike : (i : ℕ) (m : Message) → i < r → Sendable r k m → ch .replica i .N i ≡ length (ch .log i) → ch .replica i .N i < MAX
       → Readable (on-wire i (ch .replica i .N i + 1) m)
-      → Alike r k (put i (words-after i m (replicas i)) replicas)
-      (put i (written (end-of (ch .replica i .N i) (logs i)) (on-wire i (ch .replica i .N i + 1) m) (logs i)) logs) (issued i m ch)
+      → Alike r k (put i (words-after i m (replicas i)) replicas) (issued i m ch)
   unfolding issued
   issued-alike i m hi sends own few good = record {
     heads = λ j l. by-place j i (λ e. rw e (simp put-same (taken-heads r k i i m (replicas i) (a .heads i hi) hi (sendable-limits r k m sends) (right i hi)))) (λ d. simp put-other (a .heads j l));
     shows = λ j l. by-place j i (λ e. simp put-at (taken-alike r k i i m (replicas i) (a .heads i hi) hi (sendable-limits r k m sends) (ch .replica i) (a .shows i hi))) (λ d. simp put-other (a .shows j l));
-    holds = λ j l. by-place j i (λ e. rw e (simp put-same log-more)) (λ d. simp put-other (a .holds j l));
+    readable = λ j l. by-place j i (λ e. rw e (simp put-same log-more)) (λ d. simp put-other (a .readable j l));
     sendable = λ j l n.
         by-place j i
         (λ e. simp put-at (places-more (Sendable r k) no-message (ch .log i) m (a .sendable i hi) sends n))
@@ -76,14 +65,12 @@ module _ (r k : ℕ) (replicas logs : ℕ → List ℕ) (ch : Chassis) (z : Size
     few = λ j l. by-place j i (λ e. rw e (simp (put-same, taken-N) few)) (λ d. simp put-other (a .few j l));
   }
     where
-      log-more : Holds (written (end-of (ch .replica i .N i) (logs i)) (on-wire i (ch .replica i .N i + 1) m) (logs i)) (wire-log i (ch .log i ++ m ∷ []))
-      log-more =
-          rw (own, wire-log-append i (ch .log i) m)
-          (holds-more (logs i) (wire-log i (ch .log i)) _ (length (ch .log i)) (sym (length-numbered i 0 (ch .log i))) (a .holds i hi) (rw own at good))
+      log-more : AllReadable (wire-log i (ch .log i ++ m ∷ []))
+      log-more = rw (wire-log-append i (ch .log i) m) (readable-more (wire-log i (ch .log i)) _ (a .readable i hi) (rw own at good))
 
   -- card i takes card s's message m, whose turn it is
   pub delivered-alike : (i s : ℕ) → i < r → s < r → (i ≡ s → ⊥) → ch .replica i .N s < length (ch .log s)
-      → Alike r k (put i (words-after s (getD (ch .log s) (ch .replica i .N s) no-message) (replicas i)) replicas) logs (delivered i s ch)
+      → Alike r k (put i (words-after s (getD (ch .log s) (ch .replica i .N s) no-message) (replicas i)) replicas) (delivered i s ch)
   unfolding delivered
   delivered-alike i s hi hs apart waits =
       let m = getD (ch .log s) (ch .replica i .N s) no-message in
@@ -91,18 +78,35 @@ module _ (r k : ℕ) (replicas logs : ℕ → List ℕ) (ch : Chassis) (z : Size
       record {
         heads = λ j l. by-place j i (λ e. rw e (simp put-same (taken-heads r k i s m (replicas i) (a .heads i hi) hs on (right i hi)))) (λ d. simp put-other (a .heads j l));
         shows = λ j l. by-place j i (λ e. simp put-at (taken-alike r k i s m (replicas i) (a .heads i hi) hs on (ch .replica i) (a .shows i hi))) (λ d. simp put-other (a .shows j l));
-        holds = a .holds;
+        readable = a .readable;
         sendable = a .sendable;
         few = λ j l. by-place j i (λ e. rw e (simp (put-same, taken-N, put-other) (a .few i hi))) (λ d. simp put-other (a .few j l));
       }
 
 -- tables that agree below r
-pub alike-same : (r k : ℕ) (replicas replicas′ logs logs′ : ℕ → List ℕ) (ch : Chassis)
-    → ((i : ℕ) → i < r → replicas′ i ≡ replicas i) → ((j : ℕ) → j < r → logs′ j ≡ logs j) → Alike r k replicas logs ch → Alike r k replicas′ logs′ ch
-alike-same r k replicas replicas′ logs logs′ ch e f a = record {
+pub alike-same : (r k : ℕ) (replicas replicas′ : ℕ → List ℕ) (ch : Chassis)
+    → ((i : ℕ) → i < r → replicas′ i ≡ replicas i) → Alike r k replicas ch → Alike r k replicas′ ch
+alike-same r k replicas replicas′ ch e a = record {
   heads = λ i l. rw (e i l) (a .heads i l);
   shows = λ i l. rw (e i l) (a .shows i l);
-  holds = λ j l. rw (f j l) (a .holds j l);
+  readable = a .readable;
   sendable = a .sendable;
   few = a .few;
 }
+
+-- ---- an accepted step
+
+abbrev pub accepted-offer : Step → Offer
+accepted-offer s = record { step = s; willing = true }
+
+module _ (r k : ℕ) (replicas : ℕ → List ℕ) (ch : Chassis) (ls : ℕ → Ledger) (h : InStep r k replicas ch ls) (s : Step) (on : enabled r s ch ≡ true) where
+  pub done-after : stepped r (accepted-offer s) ch ≡ done r s ch
+  unfolding stepped
+  done-after = rw on
+
+  oks-after : (q : ℕ) → Ok r q (stepped r (accepted-offer s) ch) (fed r q s true (ls q))
+  oks-after q = rw on at (step-ok r q (accepted-offer s) ch (ls q) (h .oks q))
+
+  pub accepted-in-step : (replicas′ : ℕ → List ℕ) → Alike r k replicas′ (done r s ch)
+      → InStep r k replicas′ (stepped r (accepted-offer s) ch) (λ q. fed r q s true (ls q))
+  accepted-in-step replicas′ alike = record { sizes = h .sizes; alike = rw done-after alike; oks = oks-after }

@@ -18,11 +18,13 @@ use Rattle.chassis_model.specs.Log.{waiting-part, end-of}
 use Rattle.chassis_model.specs.PartLaws.{part-length}
 use Rattle.chassis_model.specs.LogLaws.{Stands}
 use Rattle.chassis_model.specs.Run.{State, Stepped, replica-of, log-of, N-at, free-from, made, delivered}
-use Rattle.chassis_model.specs.Matches.{Sizes, Matches, reached-N}
+use Rattle.chassis_model.specs.InStep.{Sizes, reached-N}
+use Rattle.chassis_model.specs.Matches.{Matches}
 use Rattle.chassis_model.specs.Fresh.{fresh-state, fresh-matches}
-use Rattle.chassis_model.specs.Sends.{call-of, message-sendable, message-readable}
-use Rattle.chassis_model.specs.Made.{next-message, made-of, state-made, declined-made, call-cases}
-use Rattle.chassis_model.specs.Delivered.{turn, state-delivered, turn-stands, one-delivered}
+use Rattle.chassis_model.specs.Sends.{call-of, next-message, message-sendable, message-readable, call-cases}
+use Rattle.chassis_model.specs.Takes.{turn}
+use Rattle.chassis_model.specs.Made.{made-of, state-made, declined-made}
+use Rattle.chassis_model.specs.Delivered.{state-delivered, turn-stands, one-delivered}
 use Rattle.chassis_model.specs.Steps.{made-matches, link-matches}
 use Rattle.chassis_model.specs.Ends.{ends-within, ends-in, end-made, ends-made, end-delivered, ends-delivered}
 
@@ -112,15 +114,15 @@ module _ (r k L : ℕ) (st : State) (places : List ℕ) (h : Reached r k L st pl
 
     places-made : (counts : Bool) (q : ℕ) → PlacesAfter (call-of counts q (replica-of r k L st i) (drop (free-from r k L st i) (log-of r k L st i)))
     places-made counts q =
-        call-cases r k L st (h .chassis) (h .ledgers) (h .matches) counts i q hi PlacesAfter (drop (free-from r k L st i) (log-of r k L st i))
+        call-cases r k (replica-of r k L st) (h .chassis) (h .ledgers) (h .matches .cards) counts i q hi PlacesAfter (drop (free-from r k L st i) (log-of r k L st i))
         (λ a. places-declined no-such-counter)
         (λ a b. places-declined no-more-messages)
         (λ a b c. places-declined output-too-short)
         (λ hq few room.
         let m = next-message r (h .chassis) counts i q in
         let sends = message-sendable counts r k i q (h .chassis .replica i) hq in
-        let good = message-readable r k L st (h .chassis) (h .ledgers) (h .matches) counts i q hi hq few in
-        places-move r (ends-in r k L st) (ends-in r k L (state-made r k L st i m)) places i i _ (h .matches .sizes .few-cards) hi hi (h .places-are)
+        let good = message-readable r k (replica-of r k L st) (h .chassis) (h .ledgers) (h .matches .cards) counts i q hi hq few in
+        places-move r (ends-in r k L st) (ends-in r k L (state-made r k L st i m)) places i i _ (h .matches .cards .sizes .few-cards) hi hi (h .places-are)
         (end-made r k L st (h .chassis) (h .ledgers) (h .matches) i hi m sends few good room)
         (ends-made r k L st (h .chassis) (h .ledgers) (h .matches) i hi m sends few good room))
 
@@ -151,7 +153,7 @@ module _ (r k L : ℕ) (st : State) (places : List ℕ) (h : Reached r k L st pl
           h .places-are .place i s hi hs,
           turn-stands r k L st (h .chassis) (h .ledgers) (h .matches) i s hi hs waits .called,
         )
-        (places-move r (ends-in r k L st) (ends-in r k L (state-delivered r k L st i s (turn (h .chassis) i s))) places i s _ (h .matches .sizes .few-cards) hi hs (h .places-are)
+        (places-move r (ends-in r k L st) (ends-in r k L (state-delivered r k L st i s (turn (h .chassis) i s))) places i s _ (h .matches .cards .sizes .few-cards) hi hs (h .places-are)
         (end-delivered r k L st (h .chassis) (h .ledgers) (h .matches) i s hi hs waits apart)
         (ends-delivered r k L st (h .chassis) (h .ledgers) (h .matches) i s hi hs waits apart));
   }
@@ -173,5 +175,5 @@ fresh-reached r k L logs z fits =
       chassis = _;
       ledgers = _;
       matches = h;
-      places-are = fresh-places r 256 (ends-in r k L (fresh-state r k L logs)) refl (z .few-cards) (λ i s hi hs. rw (reached-N r k L _ _ _ h i s hi hs));
+      places-are = fresh-places r 256 (ends-in r k L (fresh-state r k L logs)) refl (z .few-cards) (λ i s hi hs. rw (reached-N r k _ _ _ (h .cards) i s hi hs));
     }

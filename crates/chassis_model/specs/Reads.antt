@@ -1,4 +1,4 @@
--- LAWS. A read of a reached state is the ledger's reading: the checks pass, the words show the replica, and the theory's theorem says what it reads.
+-- LAWS. A read on a card in step with the theory is the ledger's reading: the checks pass, the words show the replica, and the theory's theorem says what it reads.
 use Prim.Native.Nat.{ℕ, zero, suc, _<_}
 use mathlib.Core.Path.{_≡_, refl, sym, ap, _∙_}
 use mathlib.Core.Bool.{Bool}
@@ -16,9 +16,8 @@ use Rattle.replica_model.specs.Store.{layout}
 use Rattle.replica_model.specs.Calls.{count-below, reading, read-on}
 use Rattle.replica_model.specs.Terms.{Right, RowOf, holders}
 use Rattle.replica_model.specs.RowLaws.{right-from, row-from}
-use Rattle.chassis_model.specs.Run.{State, replica-of}
 use Rattle.chassis_model.specs.Ledger.{ledger-reading}
-use Rattle.chassis_model.specs.Matches.{Heads, Matches, reached-right, reached-row}
+use Rattle.chassis_model.specs.InStep.{Heads, InStep, reached-right, reached-row}
 
 count-cong : (n : ℕ) (f g : ℕ → Bool) → ((j : ℕ) → j < n → f j ≡ g j) → count-below n f ≡ count-below n g
 unfolding count-below
@@ -43,24 +42,24 @@ reading-shown r k i q b c h s hq =
       count-cong r (λ j. present (entry-of r b q j)) (λ j. present (c .entry q j)) (λ j l. ap present (s .entries q j hq l)),
     )
 
-module _ (r k L : ℕ) (st : State) (ch : Chassis) (ls : ℕ → Ledger) (h : Matches r k L st ch ls) (i q : ℕ) (hi : i < r) (hq : q < k) where
+module _ (r k : ℕ) (replicas : ℕ → List ℕ) (ch : Chassis) (ls : ℕ → Ledger) (h : InStep r k replicas ch ls) (i q : ℕ) (hi : i < r) (hq : q < k) where
   -- the ledger's holding cards are the replica's
   holding-is : (j : ℕ) → present (ch .replica i .entry q j) ≡ holds i j (ls q)
   holding-is j = let ok = h .oks q in sym (holds-is q (ok .notes) (ok .valid) i (ok .row i) (ch .replica i) (ls q) (ok .cards i) j)
 
   -- and so are the words'
-  pub holders-counted : holders (replica-of r k L st i) q ≡ count-below r (λ j. holds i j (ls q))
+  pub holders-counted : holders (replicas i) q ≡ count-below r (λ j. holds i j (ls q))
   holders-counted =
       rw (h .alike .heads i hi .cards-are)
-      (count-cong r (λ j. present (entry-of r (replica-of r k L st i) q j)) (λ j. holds i j (ls q))
+      (count-cong r (λ j. present (entry-of r (replicas i) q j)) (λ j. holds i j (ls q))
       (λ j l. ap present (h .alike .shows i hi .entries q j hq l) ∙ holding-is j))
 
-  pub read-matches : read-on (replica-of r k L st i) q ≡ ledger-reading r i (ls q)
+  pub read-matches : read-on (replicas i) q ≡ ledger-reading r i (ls q)
   unfolding ledger-reading
   read-matches =
       let on = h .alike .heads i hi in
-      read-passes (replica-of r k L st i) q (reached-right r k L st ch ls h i hi) (rw (on .counters-are) hq) (reached-row r k L st ch ls h i q hi hq)
-      ∙ reading-shown r k i q (replica-of r k L st i) (ch .replica i) on (h .alike .shows i hi) hq
+      read-passes (replicas i) q (reached-right r k replicas ch ls h i hi) (rw (on .counters-are) hq) (reached-row r k replicas ch ls h i q hi hq)
+      ∙ reading-shown r k i q (replicas i) (ch .replica i) on (h .alike .shows i hi) hq
       ∙ rw (
         value-is r q ch (ls q) (h .oks q) i,
         holders-are r q ch (ls q) (h .oks q) i,

@@ -1,17 +1,19 @@
 -- LAWS. A step of any kind beside the theory's: a declined step leaves everything as it was, and an accepted one is the theory's step, so
 -- the state after it matches the chassis and the ledgers after it.
-use Prim.Native.Nat.{ℕ, _*_}
+use Prim.Native.Nat.{ℕ, _*_, _<_}
 use mathlib.Core.Path.{_≡_, sym, subst}
 use mathlib.Core.Bool.{true, false}
 use lib.ListN.{length}
 use Rattle.protocol.specs.Cases.{by-place}
 use Rattle.protocol.specs.Ledger.{Ledger, fed}
-use Rattle.protocol.specs.Chassis.{Chassis, done, enabled, Offer, accepted, stepped}
-use Rattle.protocol.specs.Theorem.{Ok, step-ok}
+use Rattle.protocol.specs.Chassis.{Chassis, done, enabled, Offer, stepped}
 use Rattle.replica_model.specs.Layout.{replica-length}
 use Rattle.chassis_model.specs.Run.{Step, State, Stepped, replica-of, log-of, count-kind, clear-kind, deliver-kind}
 use Rattle.chassis_model.specs.Ledger.{ledger-step, was-accepted}
-use Rattle.chassis_model.specs.Matches.{Alike, Matches}
+use Rattle.chassis_model.specs.Numbered.{wire-log}
+use Rattle.chassis_model.specs.InStep.{Alike}
+use Rattle.chassis_model.specs.Matches.{Holds, Matches}
+use Rattle.chassis_model.specs.Moves.{done-after, accepted-in-step}
 
 -- the step as the theory has it: willing if the run accepted it
 abbrev pub offer : Step → ℕ → Offer
@@ -27,23 +29,16 @@ module _ (r k L : ℕ) (s : Step) (st : State) (ch : Chassis) (ls : ℕ → Ledg
   unfolding stepped fed
   declined-matches answer e = rw e h
 
-  oks-after : (o : Offer) → accepted r o ch ≡ true → (q : ℕ) → Ok r q (stepped r o ch) (fed r q (o .step) true (ls q))
-  oks-after o e q = rw e at (step-ok r q o ch (ls q) (h .oks q))
-
-  done-after : (o : Offer) → accepted r o ch ≡ true → stepped r o ch ≡ done r (o .step) ch
-  unfolding stepped
-  done-after o e = rw e
-
   pub accepted-matches : (st′ : State) → enabled r (ledger-step s) ch ≡ true
       → length (st′ .words) ≡ r * replica-length r k → length (st′ .logs) ≡ r * L
-      → Alike r k (replica-of r k L st′) (log-of r k L st′) (done r (ledger-step s) ch)
+      → Alike r k (replica-of r k L st′) (done r (ledger-step s) ch)
+      → ((j : ℕ) → j < r → Holds (log-of r k L st′ j) (wire-log j (done r (ledger-step s) ch .log j)))
       → StepMatches r k L s ch ls (record { answer = 0; state = st′ })
-  accepted-matches st′ on words logs alike = record {
-    sizes = h .sizes;
+  accepted-matches st′ on words logs alike holds = record {
     words-fit = words;
     logs-fit = logs;
-    alike = rw (done-after (offer s 0) on) alike;
-    oks = oks-after (offer s 0) on;
+    cards = accepted-in-step r k (replica-of r k L st) ch ls (h .cards) (ledger-step s) on (replica-of r k L st′) alike;
+    holds = λ j l. rw (done-after r k (replica-of r k L st) ch ls (h .cards) (ledger-step s) on) (holds j l);
   }
 
 -- ---- the kinds of step

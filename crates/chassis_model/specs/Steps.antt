@@ -8,13 +8,15 @@ use Rattle.protocol.specs.Limits.{no-such-counter, no-more-messages, no-such-ca
 use Rattle.protocol.specs.Cases.{by-le, by-place}
 use Rattle.protocol.specs.Ledger.{Ledger}
 use Rattle.protocol.specs.Chassis.{Chassis, issued, done, enabled}
-use Rattle.chassis_model.specs.Run.{Step, State, N-at, made, delivered, cards-right, step-on, count-kind, clear-kind, deliver-kind}
+use Rattle.chassis_model.specs.Run.{Step, State, replica-of, N-at, made, delivered, cards-right, step-on, count-kind, clear-kind, deliver-kind}
 use Rattle.chassis_model.specs.Ledger.{ledger-step}
-use Rattle.chassis_model.specs.Matches.{Matches, reached-N}
+use Rattle.chassis_model.specs.InStep.{reached-N}
+use Rattle.chassis_model.specs.Matches.{Matches}
 use Rattle.chassis_model.specs.Stepping.{StepMatches, declined-matches, accepted-matches, step-of-kind, by-kind}
-use Rattle.chassis_model.specs.Sends.{call-of, message-sendable, message-readable}
-use Rattle.chassis_model.specs.Made.{next-message, made-cases, state-made, made-words-fit, made-logs-fit, made-alike}
-use Rattle.chassis_model.specs.Delivered.{turn, state-delivered, none-delivered, one-delivered, delivered-fits, delivered-is-alike}
+use Rattle.chassis_model.specs.Sends.{call-of, next-message, message-sendable, message-readable}
+use Rattle.chassis_model.specs.Takes.{turn}
+use Rattle.chassis_model.specs.Made.{made-cases, state-made, made-words-fit, made-logs-fit, made-alike, made-holds}
+use Rattle.chassis_model.specs.Delivered.{state-delivered, none-delivered, one-delivered, delivered-fits, delivered-is-alike, delivered-holds}
 
 -- a count or a clear of counter q by card i
 abbrev pub made-step-of : Bool → ℕ → ℕ → Step
@@ -39,11 +41,12 @@ module _ (r k L : ℕ) (st : State) (ch : Chassis) (ls : ℕ → Ledger) (h : Ma
       (λ hq few room.
       let m = next-message r ch counts i q in
       let sends = message-sendable counts r k i q (ch .replica i) hq in
-      let good = message-readable r k L st ch ls h counts i q hi hq few in
+      let good = message-readable r k (replica-of r k L st) ch ls (h .cards) counts i q hi hq few in
       accepted-matches r k L s st ch ls h (state-made r k L st i m) on
       (made-words-fit r k L st ch ls h i hi m sends few good)
       (made-logs-fit r k L st ch ls h i hi m sends few good room)
-      (rw is (made-alike r k L st ch ls h i hi m sends few good room)))
+      (rw is (made-alike r k L st ch ls h i hi m sends few good room))
+      (rw is (made-holds r k L st ch ls h i hi m sends few good room)))
 
   pub made-matches : (counts : Bool) (i q : ℕ) → i < r → StepMatches r k L (made-step-of counts i q) ch ls (made r k L i (call-of counts q) st)
   unfolding enabled done
@@ -73,9 +76,10 @@ module _ (r k L : ℕ) (st : State) (ch : Chassis) (ls : ℕ → Ledger) (h : Ma
       rw (one-delivered r k L st ch ls h i s hi hs waits apart)
       (accepted-matches r k L (step-of-kind deliver-kind i s) st ch ls h (state-delivered r k L st i s (turn ch i s))
       (rw (lt-ltb i r hi, lt-ltb s r hs, ne-eqb i s apart)
-      (lt-ltb (ch .replica i .N s) (ch .replica s .N s) (rw (reached-N r k L st ch ls h i s hi hs, reached-N r k L st ch ls h s s hs hs) at waits)))
+      (lt-ltb (ch .replica i .N s) (ch .replica s .N s) (rw (reached-N r k (replica-of r k L st) ch ls (h .cards) i s hi hs, reached-N r k (replica-of r k L st) ch ls (h .cards) s s hs hs) at waits)))
       (delivered-fits r k L st ch ls h i s hi hs waits apart) (h .logs-fit)
-      (delivered-is-alike r k L st ch ls h i s hi hs waits apart)))
+      (delivered-is-alike r k L st ch ls h i s hi hs waits apart)
+      (delivered-holds r k L st ch ls h i s hi hs waits apart)))
       (λ none.
       rw (none-delivered r k L st ch ls h i s hi hs (omega arith))
       (declined-matches r k L (step-of-kind deliver-kind i s) st ch ls h none-waiting refl))

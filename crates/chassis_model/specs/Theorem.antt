@@ -56,7 +56,7 @@ unfolding run-on ledger-of
 ledger-theorem r k L steps words logs answers right i q hi hq =
     let z = right-sizes r k L (length steps) words logs answers right in
     let ran = run-ran r k L steps logs (z .0) (z .1) in
-    rw right (read-matches r k L _ (ran .chassis) _ (ran .matches) i q hi hq)
+    rw right (read-matches r k _ (ran .chassis) _ (ran .matches .cards) i q hi hq)
 
 -- ---- answers
 

@@ -35,8 +35,8 @@ received-requires c κs =
     let g = start .pre .0 in (
       g .replica-is,
       words-long (args .z) (now (args .words)) (now (args .logs)) (now (args .places)) g,
-      g .reached .matches .sizes .few-cards,
-      g .reached .matches .sizes .few-counters,
+      g .reached .matches .cards .sizes .few-cards,
+      g .reached .matches .cards .sizes .few-counters,
       start .pre .2,
       start .pre .2,
     )
@@ -48,8 +48,8 @@ received-requires-2 c κs =
     let g = start .pre .0 in (
       g .replica-is,
       words-long (args .z) (now (args .words)) (now (args .logs)) (now (args .places)) g,
-      g .reached .matches .sizes .few-cards,
-      g .reached .matches .sizes .few-counters,
+      g .reached .matches .cards .sizes .few-cards,
+      g .reached .matches .cards .sizes .few-counters,
       start .pre .1,
       start .pre .2,
     )
@@ -99,7 +99,7 @@ stands c =
 link-requires : tie.Need-link-requires
 link-requires c κs =
     let start = c .before .before .before .before .before .before .before in
-    let few = start .pre .0 .reached .matches .sizes .few-cards in
+    let few = start .pre .0 .reached .matches .cards .sizes .few-cards in
     (omega (arith, few, start .pre .1), omega (arith, few, start .pre .2))
 
 mul-at : tie.Need-mul-at

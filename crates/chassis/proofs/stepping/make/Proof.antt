@@ -40,7 +40,7 @@ sent-is c =
 link-requires : tie.Need-link-requires
 link-requires c κs =
     let start = c .before .before in
-    let few = start .pre .0 .reached .matches .sizes .few-cards in
+    let few = start .pre .0 .reached .matches .cards .sizes .few-cards in
     let inside : start .args .card < 16 = omega (arith, start .pre .1) in
     (inside, inside)
 
