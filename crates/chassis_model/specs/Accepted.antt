@@ -12,8 +12,7 @@ use borrow.Author.Tests.{lt-ltb, le-ltb, le-leb, eq-eqb, ne-eqb}
 use Rattle.protocol.specs.Limits.{no-such-card}
 use Rattle.protocol.specs.Cases.{by-place, and-yes, and-no-right}
 use Rattle.protocol.specs.declared.ClearEntry.{ClearEntry}
-use Rattle.protocol.specs.Chassis.{Message, increment, clearing}
-use Rattle.protocol.specs.Chain.{counter-of}
+use Rattle.protocol.specs.Chassis.{Message, increment, clearing, counter-of}
 use Rattle.protocol.specs.Stores.{CardsBelow}
 use Rattle.protocol.specs.Refusals.{Plausible, PlausibleEntries}
 use Rattle.wire.specs.declared.Message as wire

@@ -16,8 +16,8 @@ use Rattle.protocol.specs.EntryLaws.{cancelled-by-increment}
 use Rattle.protocol.specs.Names.{Name, join, insert, names-after, names-up-to}
 use Rattle.protocol.specs.NameLaws.{Prefixes, Prefixes-cong, join-ok}
 use Rattle.protocol.specs.Ledger.{Item, nothing}
-use Rattle.protocol.specs.Chassis.{Message, increment, clearing, Replica, cleared-row, taken}
-use Rattle.protocol.specs.Chain.{Note, other, inc, clr, no-note, Target, cleared-entry, wire, counter-of, units-of, mark-at, ValidNotes, OnChain, note-ok, mark-suc, mark-append}
+use Rattle.protocol.specs.Chassis.{Message, increment, clearing, Replica, cleared-row, taken, counter-of, units-of}
+use Rattle.protocol.specs.Chain.{Note, other, inc, clr, no-note, Target, cleared-entry, wire, mark-at, ValidNotes, OnChain, note-ok, mark-suc, mark-append}
 use Rattle.protocol.specs.Pairs.{PairOk, pair-more, pair-other, pair-clear-taken, pair-increment, pair-clear, later-names}
 
 -- The mark of what the card of replica b has received from j. (An abbrev, and above every section: inside one it would carry the section's proofs

@@ -11,7 +11,7 @@ use lib.ListN.{length, getD, length-append}
 use Rattle.protocol.specs.Cases.{by-le}
 use Rattle.protocol.specs.Marks.{Mark, no-messages, after-increment, after-other, Follows, Proper, Before, Proper-none, Proper-increment, Proper-other, Before-refl, Before-increment, Before-other, Before-trans}
 use Rattle.protocol.specs.EntryLaws.{Ordered}
-use Rattle.protocol.specs.Chassis.{Message, increment, clearing, no-message, ClearEntry}
+use Rattle.protocol.specs.Chassis.{Message, increment, clearing, no-message, counter-of, units-of, ClearEntry}
 
 -- a card, and the mark up to which a clear clears its names
 pub record Target : Type 0 where
@@ -34,14 +34,6 @@ abbrev pub wire : ℕ → Note → Message
 wire q (other m) = m
 wire q (inc w p start) = increment q w p start
 wire q (clr ts) = clearing q (map cleared-entry ts)
-
-abbrev pub counter-of : Message → ℕ
-counter-of (increment k w p start) = k
-counter-of (clearing k ts) = k
-
-abbrev pub units-of : Message → ℕ
-units-of (increment k w p start) = w
-units-of (clearing k ts) = 0
 
 abbrev pub after : Note → Mark → Mark
 after (other m) k = after-other (units-of m) k

@@ -34,6 +34,15 @@ pub data Message : Type 0 where
 abbrev pub no-message : Message
 no-message = clearing 0 []
 
+-- the counter of a message; how many increments it is
+abbrev pub counter-of : Message → ℕ
+counter-of (increment k w p start) = k
+counter-of (clearing k ts) = k
+
+abbrev pub units-of : Message → ℕ
+units-of (increment k w p start) = w
+units-of (clearing k ts) = 0
+
 -- "Count: with M[i] absent, send p = C[i] + 1 with start; else p = M[i].p + 1 without." (Algorithm 1, lines 12 to 16)
 unfoldable pub count-message : ℕ → ℕ → ℕ → Replica → Message
 count-message i q w b = increment q w (count-p w (b .C i) (b .entry q i)) (count-starts (b .entry q i))

@@ -11,9 +11,9 @@ use Rattle.protocol.specs.Tables.{put-at, put-other}
 use Rattle.protocol.specs.Marks.{Mark, Before}
 use Rattle.protocol.specs.EntryLaws.{entry-well-formed, own-entry-well-formed, increment-plausible}
 use Rattle.protocol.specs.Ledger.{Ledger, Step, count, clear, deliver}
-use Rattle.protocol.specs.Chassis.{Message, no-message, Chassis, fresh-chassis, count-message, clear-message, issued, delivered, done, Offer, accepted, stepped, run}
+use Rattle.protocol.specs.Chassis.{Message, no-message, Chassis, fresh-chassis, count-message, clear-message, issued, delivered, done, Offer, accepted, stepped, run, counter-of, units-of}
 use Rattle.protocol.specs.Chain as chain
-use Rattle.protocol.specs.Chain.{Note, inc, clr, no-note, Target, cleared-entry, wire, counter-of, units-of, after, mark-from, mark-at, OwnWithin, OnChain, mark-proper, mark-suc, note-ok}
+use Rattle.protocol.specs.Chain.{Note, inc, clr, no-note, Target, cleared-entry, wire, after, mark-from, mark-at, OwnWithin, OnChain, mark-proper, mark-suc, note-ok}
 use Rattle.protocol.specs.Pairs.{chain-proper, chain-before-end, on-chain-at}
 use Rattle.protocol.specs.Cards.{TargetsOn}
 use Rattle.protocol.specs.Steps.{Ok}

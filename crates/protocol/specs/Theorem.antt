@@ -14,8 +14,8 @@ use Rattle.protocol.specs.Marks.{no-messages}
 use Rattle.protocol.specs.EntryLaws.{even, reads-value}
 use Rattle.protocol.specs.NameLaws.{Prefixes-empty, tally-is}
 use Rattle.protocol.specs.Ledger.{Step, count, clear, deliver, Ledger, nothing, empty-ledger, made, entered, fed, kept, ledger-value, ledger-holders, count-item, clear-item}
-use Rattle.protocol.specs.Chassis.{Replica, Chassis, fresh-chassis, count-message, clear-message, issued, done, enabled, Offer, accepted, stepped, run, answers, read-value, read-holders}
-use Rattle.protocol.specs.Chain.{other, counter-of, mark-from, mark-at}
+use Rattle.protocol.specs.Chassis.{Replica, Chassis, fresh-chassis, count-message, clear-message, issued, done, enabled, Offer, accepted, stepped, run, answers, read-value, read-holders, counter-of}
+use Rattle.protocol.specs.Chain.{other, mark-from, mark-at}
 use Rattle.protocol.specs.Pairs.{PairOk}
 use Rattle.protocol.specs.Makers.{count-note, count-sends, count-in-order, count-enters, clear-note, clear-sends, clear-in-order, clear-on, clear-enters, holds-is}
 use Rattle.protocol.specs.Steps.{items, issued-ok, delivered-ok}

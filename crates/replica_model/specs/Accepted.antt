@@ -12,8 +12,7 @@ use Rattle.protocol.specs.Tables.{sum-cong, bits}
 use Rattle.protocol.specs.declared.Entry.{Entry}
 use Rattle.protocol.specs.Entry.{present}
 use Rattle.protocol.specs.declared.ClearEntry.{ClearEntry}
-use Rattle.protocol.specs.Chassis.{Message, increment, clearing, count-message, clear-message, read-value, read-holders}
-use Rattle.protocol.specs.Chain.{counter-of}
+use Rattle.protocol.specs.Chassis.{Message, increment, clearing, count-message, clear-message, read-value, read-holders, counter-of}
 use Rattle.protocol.specs.Stores.{CardsBelow, InLimits, shown, taken-words}
 use Rattle.wire.specs.Message.{message-at}
 use Rattle.replica_model.specs.Layout.{cards, counters, own-card, C-of, N-of, entry-of}

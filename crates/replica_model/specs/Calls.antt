@@ -11,7 +11,7 @@ use Rattle.protocol.specs.declared.ClearEntry.{ClearEntry}
 use Rattle.protocol.specs.Entry.{present}
 use Rattle.protocol.specs.Chassis as protocol
 use Rattle.protocol.specs.Chassis.{Replica, increment, clearing, count-message, clear-message, read-value, read-holders}
-use Rattle.protocol.specs.Stores.{shown, taken-words}
+use Rattle.protocol.specs.Layouts.{shown, taken-words}
 use Rattle.wire.specs.declared.Message as wire
 use Rattle.wire.specs.Message as form
 use Rattle.wire.specs.Message.{increment-message, increment-kind, message-at, message-bytes, message-length, reads, over}

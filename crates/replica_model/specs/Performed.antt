@@ -11,9 +11,8 @@ use Rattle.protocol.specs.Limits.{MAX}
 use Rattle.protocol.specs.Tables.{put-same, put-other, put-same-row, put-other-row}
 use Rattle.protocol.specs.declared.Entry.{Entry}
 use Rattle.protocol.specs.declared.ClearEntry.{ClearEntry}
-use Rattle.protocol.specs.Chain.{counter-of}
 use Rattle.protocol.specs.Entry.{incremented}
-use Rattle.protocol.specs.Chassis.{Message, increment, clearing, cleared-row, taken}
+use Rattle.protocol.specs.Chassis.{Message, increment, clearing, cleared-row, taken, counter-of}
 use Rattle.protocol.specs.Stores.{Shows, InLimits, shown, cleared-words, taken-words, taken-shows}
 use Rattle.replica_model.specs.Layout.{head, cards, counters, own-card, at-C, at-N, C-of, N-of, entry-of}
 use Rattle.replica_model.specs.Store.{layout, C-entry}

@@ -10,7 +10,7 @@ use borrow.Author.Tests.{lt-ltb, eq-eqb, leb-true, ltb-true}
 use Rattle.protocol.specs.Limits.{MAX}
 use Rattle.protocol.specs.Cases.{by-test, by-le}
 use Rattle.protocol.specs.declared.ClearEntry.{ClearEntry}
-use Rattle.protocol.specs.Chain.{counter-of}
+use Rattle.protocol.specs.Chassis.{counter-of}
 use Rattle.wire.specs.declared.Message as wire
 use Rattle.wire.specs.Message.{increment-kind, increment-in-range, entry-in-range, entries-in-range, in-range, message-at}
 use Rattle.wire.specs.Bounds.{bounds}

@@ -11,10 +11,9 @@ use Rattle.protocol.specs.Limits.{MAX, wrong-replica, not-well-formed, no-such-
 use Rattle.protocol.specs.Entry.{present}
 use Rattle.protocol.specs.declared.Entry.{Entry}
 use Rattle.protocol.specs.declared.ClearEntry.{ClearEntry}
-use Rattle.protocol.specs.EntryLaws.{WellFormed}
-use Rattle.protocol.specs.Chassis.{Message, increment, clearing, count-message, clear-message, taken}
-use Rattle.protocol.specs.Chain.{counter-of, units-of}
-use Rattle.protocol.specs.Stores.{Shows, taken-words}
+use Rattle.protocol.specs.Rows.{WellFormed}
+use Rattle.protocol.specs.Chassis.{Message, increment, clearing, count-message, clear-message, taken, counter-of, units-of}
+use Rattle.protocol.specs.Layouts.{Shows, taken-words}
 use Rattle.wire.specs.declared.Message as wire
 use Rattle.wire.specs.Message.{message-at, message-bytes, message-length, in-range, reads, over}
 use Rattle.replica_model.specs.Layout.{cards, counters, own-card, replica-length, C-of, N-of, entry-of}
