@@ -42,22 +42,22 @@ reset-message-agrees r q b = ap (clearing q) (triples-agree r (b .entry q))
 -- ---- one entry
 
 -- an absent entry is whole: all that the effectors ask of an entry
-abbrev Whole : Entry → Type 0
+abbrev pub Whole : Entry → Type 0
 Whole e = e .p ≡ 0 → (e .n ≡ 0) × (e .c ≡ 0)
 
-well-formed-whole : (most : ℕ) (e : Entry) → WellFormed most e → Whole e
+pub well-formed-whole : (most : ℕ) (e : Entry) → WellFormed most e → Whole e
 well-formed-whole most e k z = (omega arith, k .absent-whole z)
 
 slot-dom : (e : Entry) → in-dom (slot-of e) ≡ present e
 slot-dom e = by-test (present e) (λ y. rw y) (λ y. rw y)
 
-slot-p : (e : Entry) → p-of (slot-of e) ≡ e .p
+pub slot-p : (e : Entry) → p-of (slot-of e) ≡ e .p
 slot-p e = by-test (present e) (λ y. rw y) (λ y. let z = ltb-false 0 (e .p) y in rw y (omega arith))
 
-slot-n : (e : Entry) → Whole e → n-of (slot-of e) ≡ e .n
+pub slot-n : (e : Entry) → Whole e → n-of (slot-of e) ≡ e .n
 slot-n e k = by-test (present e) (λ y. rw y) (λ y. let z = ltb-false 0 (e .p) y in rw y (sym (k (omega arith) .0)))
 
-slot-c : (e : Entry) → Whole e → c-of (slot-of e) ≡ e .c
+pub slot-c : (e : Entry) → Whole e → c-of (slot-of e) ≡ e .c
 slot-c e k = by-test (present e) (λ y. rw y) (λ y. let z = ltb-false 0 (e .p) y in rw y (sym (k (omega arith) .1)))
 
 -- the closing test, on a slot and on an entry

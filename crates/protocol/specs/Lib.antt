@@ -12,9 +12,28 @@ pub mod Algorithm1
 pub mod Rows
 pub mod Runs
 pub mod Layouts
+-- One counter's own steps; read-and-clear; amounts; deliveries in rounds; messages made and received.
+pub mod Alone
+pub mod ReadAndClear
+pub mod InARow
+pub mod AmountRows
+pub mod Singly
+pub mod RoundRobin
+pub mod Pending
+pub mod History
 -- CLAIMS
 pub mod Claims
 pub mod Examples
+pub mod AloneClaims
+pub mod AloneExamples
+pub mod ReadAndClearClaims
+pub mod ReadAndClearExamples
+pub mod AmountClaims
+pub mod AmountExamples
+pub mod PendingClaims
+pub mod PendingExamples
+pub mod CaughtUpClaims
+pub mod CaughtUpExamples
 -- LAWS. Case splits, tables, lists.
 pub mod Cases
 pub mod Tables
@@ -25,6 +44,7 @@ pub mod Algorithm1Laws
 pub mod Marks
 pub mod EntryLaws
 pub mod NameLaws
+pub mod Joins
 pub mod Chain
 -- The invariant: of a card and an origin, of a card, of all; what cards send; the steps; the theorem.
 pub mod Pairs
@@ -33,8 +53,36 @@ pub mod Makers
 pub mod Steps
 pub mod Theorem
 -- What else the invariant gives.
+pub mod RunLaws
 pub mod Links
 pub mod Refusals
 pub mod Isolation
+-- One counter's own steps alone.
+pub mod AloneLedgers
+pub mod AloneRuns
+pub mod AloneTurns
+-- A counter that one card alone clears.
+pub mod Collects
+pub mod ReadAndClearLaws
+-- Algorithm 1, w increments in a row; rows with amounts.
+pub mod InARowLaws
+pub mod InARowRuns
+pub mod SinglyLaws
+pub mod AmountRowLaws
+-- Deliveries in rounds, and when cards agree.
+pub mod RoundRobinLaws
+pub mod RoundRobinMade
+pub mod RoundRobinEnd
+pub mod RoundRobinBound
+pub mod PendingLaws
+pub mod Arrivals
+pub mod Agreement
+pub mod PendingAgreement
+-- Histories: what cards have received, and what is cleared in the plain sense.
+pub mod Totals
+pub mod Messages
+pub mod Causality
+pub mod HistoryLaws
+pub mod CaughtUpLaws
 -- Replicas kept in words.
 pub mod Stores

@@ -36,7 +36,7 @@ Prefixes-empty = record { only = λ j o h. absurd (false≢true h); all = λ j o
 
 -- ---- membership
 
-same-name-is : (m : Name) (j o : ℕ) → same-name m (name j o) ≡ true → (m .card ≡ j) × (m .ordinal ≡ o)
+pub same-name-is : (m : Name) (j o : ℕ) → same-name m (name j o) ≡ true → (m .card ≡ j) × (m .ordinal ≡ o)
 same-name-is m j o e = (
   eqb-true (m .card) j (and-left (eqb (m .card) j) (eqb (m .ordinal) o) e),
   eqb-true (m .ordinal) o (and-right (eqb (m .card) j) (eqb (m .ordinal) o) e),
@@ -45,16 +45,16 @@ same-name-is m j o e = (
 is-same-name : (m : Name) (j o : ℕ) → m .card ≡ j → m .ordinal ≡ o → same-name m (name j o) ≡ true
 is-same-name m j o e d = and-yes (eqb (m .card) j) (eqb (m .ordinal) o) (eq-eqb (m .card) j e) (eq-eqb (m .ordinal) o d)
 
-has-first : (m : Name) (s : List Name) (j o : ℕ) → m .card ≡ j → m .ordinal ≡ o → has (m ∷ s) (name j o) ≡ true
+pub has-first : (m : Name) (s : List Name) (j o : ℕ) → m .card ≡ j → m .ordinal ≡ o → has (m ∷ s) (name j o) ≡ true
 unfolding has
 has-first m s j o e d = or-left (same-name m (name j o)) (has s (name j o)) (is-same-name m j o e d)
 
-has-more : (m : Name) (s : List Name) (n : Name) → has s n ≡ true → has (m ∷ s) n ≡ true
+pub has-more : (m : Name) (s : List Name) (n : Name) → has s n ≡ true → has (m ∷ s) n ≡ true
 unfolding has
 has-more m s n e = or-right (same-name m n) (has s n) e
 
 -- a name of a list is the first, or in the rest
-found {ℓ} : {P : Type ℓ} (m : Name) (s : List Name) (j o : ℕ) → has (m ∷ s) (name j o) ≡ true
+pub found {ℓ} : {P : Type ℓ} (m : Name) (s : List Name) (j o : ℕ) → has (m ∷ s) (name j o) ≡ true
     → (m .card ≡ j → m .ordinal ≡ o → P) → (has s (name j o) ≡ true → P) → P
 unfolding has
 found m s j o h a b =
@@ -91,7 +91,7 @@ module _ (s : List Name) (f : ℕ → ℕ) (k : Prefixes s f) (j o : ℕ) (next 
       (by-le o x (λ l. rw (le-ltb x o l) (omega arith)) (λ l. rw (lt-ltb x o l) (omega arith))))
       (λ d. rw (ne-eqb j i (λ c. d (sym c)), k .once i x, put-other j o f i d) (omega arith))
 
-  add-next : Prefixes (name j o ∷ s) (put j o f)
+  pub add-next : Prefixes (name j o ∷ s) (put j o f)
   add-next = record { only = add-only; all = add-all; once = add-once }
 
 insert-old : (n : Name) (s : List Name) → has s n ≡ true → insert n s ≡ s
@@ -142,7 +142,7 @@ latest-least j m (n ∷ s) h =
     (λ e. let q = h (n .ordinal) (has-first n s j (n .ordinal) e refl) in rw (eq-eqb (n .card) j e) (omega arith))
     (λ d. rw (ne-eqb (n .card) j d) (omega arith))
 
-latest-bounds : (j o : ℕ) (s : List Name) → has s (name j o) ≡ true → o ≤ latest j s
+pub latest-bounds : (j o : ℕ) (s : List Name) → has s (name j o) ≡ true → o ≤ latest j s
 unfolding latest has
 latest-bounds j o [] h = absurd (false≢true h)
 latest-bounds j o (n ∷ s) h =

@@ -89,7 +89,7 @@ module _ (h : List Note) (N C : ℕ) (X : Mark) (e : Entry) (k : PairOk h N C X 
 -- ---- an increment on q is taken
 
 module _ (q j : ℕ) (h : List Note) (v : ValidNotes q j h) (N C : ℕ) (X : Mark) (e : Entry) (k : PairOk h N C X e) (waits : N < length h) where
-  placed : (R⁺ : Mark) → mark-at (suc N) h ≡ R⁺ → Placed (mark-at N h) R⁺ X
+  pub placed : (R⁺ : Mark) → mark-at (suc N) h ≡ R⁺ → Placed (mark-at N h) R⁺ X
   placed R⁺ m =
       by-le (k .chain .place) N
       (λ l. inl (rw (k .chain .is-mark) (marks-before q j h v (k .chain .place) N l)))

@@ -28,7 +28,7 @@ module _ (r q : ℕ) (st : Chassis) (l : Ledger) (k : Ok r q st l) where
   C-is i j = k .cards i .pairs j .C-is
 
   -- a mark of j's is within what j itself has made
-  within-own : (j : ℕ) (x : Mark) → OnChain (k .notes j) x → x .units ≤ st .replica j .C j
+  pub within-own : (j : ℕ) (x : Mark) → OnChain (k .notes j) x → x .units ≤ st .replica j .C j
   within-own j x o =
       let b : Before x (mark-at (length (k .notes j)) (k .notes j)) = chain-before-end q j (k .notes j) (k .valid j) x o in
       rw (C-is j j, k .own j) (b .units≤)
@@ -95,7 +95,7 @@ module _ (r q : ℕ) (st : Chassis) (l : Ledger) (k : Ok r q st l) where
 
 -- ---- where every amount is 1, C is at most N (document 01's row; request 2026-05 drops it)
 
-after-units : (q : ℕ) (t : Note) (m : Mark) → after t m .units ≡ m .units + units-of (wire q t)
+pub after-units : (q : ℕ) (t : Note) (m : Mark) → after t m .units ≡ m .units + units-of (wire q t)
 after-units q (chain.other x) m = refl
 after-units q (inc w p start) m = refl
 after-units q (clr ts) m = omega arith

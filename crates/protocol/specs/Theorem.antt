@@ -50,11 +50,11 @@ fresh-ok r q = record {
 
 -- ---- an accepted step
 
-count-counter : (i c w : ℕ) (b : Replica) → counter-of (count-message i c w b) ≡ c
+pub count-counter : (i c w : ℕ) (b : Replica) → counter-of (count-message i c w b) ≡ c
 unfolding count-message
 count-counter i c w b = refl
 
-clear-counter : (r c : ℕ) (b : Replica) → counter-of (clear-message r c b) ≡ c
+pub clear-counter : (r c : ℕ) (b : Replica) → counter-of (clear-message r c b) ≡ c
 unfolding clear-message
 clear-counter r c b = refl
 
@@ -85,7 +85,7 @@ module _ (r q : ℕ) (st : Chassis) (l : Ledger) (k : Ok r q st l) where
       (issued-ok r q st l k i (clear-message r c (st .replica i)) nothing (other (clear-message r c (st .replica i))) below refl refl
       (λ e. d (sym (clear-counter r c (st .replica i)) ∙ e)) tt))
 
-  done-ok : (s : Step) → enabled r s st ≡ true → Ok r q (done r s st) (entered r q s l)
+  pub done-ok : (s : Step) → enabled r s st ≡ true → Ok r q (done r s st) (entered r q s l)
   unfolding enabled done entered
   done-ok (count i c w) e = count-ok i c w (ltb-true i r (and-left (ltb i r) (ltb 0 w) e)) (ltb-true 0 w (and-right (ltb i r) (ltb 0 w) e))
   done-ok (clear i c) e = clear-ok i c (ltb-true i r e)
