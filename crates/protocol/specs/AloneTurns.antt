@@ -2,13 +2,12 @@
 -- and that are of counter q there.
 use Prim.Native.Nat.{ℕ, suc, _≤_, _<_}
 use mathlib.Core.Path.{_≡_, refl, sym, ap, ap₂, _∙_}
-use mathlib.Core.Bool.{Bool, true, not, cond, _&&_}
+use mathlib.Core.Bool.{Bool, true, cond, _&&_}
 use mathlib.Core.List.{List, [], _∷_, _++_, map, map-append, append-assoc, tail}
-use lib.Dec.{eqb, ltb}
+use lib.Dec.{eqb}
 use lib.ListN.{length, getD, drop}
 use lib.Seq.{drop-cons, drop-append-le}
-use borrow.Author.Tests.{ltb-true, eqb-false, not-true}
-use Rattle.protocol.specs.Cases.{by-place, by-test, and-left, and-right}
+use Rattle.protocol.specs.Cases.{by-place, by-test, and-right}
 use Rattle.protocol.specs.Tables.{put, put-same, put-other, put-same-row, put-other-row}
 use Rattle.protocol.specs.Ledger.{Step, count, clear, deliver, Ledger, empty-ledger}
 use Rattle.protocol.specs.Chassis.{Message, no-message, count-message, clear-message, Chassis, fresh-chassis, issued, delivered, done, enabled, Offer, accepted, stepped, run, answers, counter-of}
@@ -18,21 +17,10 @@ use Rattle.protocol.specs.Links.{own-N-is}
 use Rattle.protocol.specs.Refusals.{received-within}
 use Rattle.protocol.specs.Runs.{step-of}
 use Rattle.protocol.specs.Alone.{Turns, no-turns, turned, turn-is, belongs, own-steps, alone, step-counter, accepted-of}
+use Rattle.protocol.specs.Enabled.{deliver-enabled}
 
 abbrev TurnsAre : Turns → Chassis → Type 0
 TurnsAre turns st = (s i : ℕ) → (i ≡ s → ⊥) → turns s i ≡ map counter-of (drop (st .replica i .N s) (st .log s))
-
--- a deliver that is enabled is between two cards, and one waits
-module _ (r i s : ℕ) (st : Chassis) (on : enabled r (deliver i s) st ≡ true) where
-  two-and-waiting : not (eqb i s) && ltb (st .replica i .N s) (st .replica s .N s) ≡ true
-  unfolding enabled
-  two-and-waiting = and-right (ltb s r) _ (and-right (ltb i r) _ on)
-
-  two-cards : i ≡ s → ⊥
-  two-cards = eqb-false i s (not-true (eqb i s) (and-left (not (eqb i s)) _ two-and-waiting))
-
-  one-waits : st .replica i .N s < st .replica s .N s
-  one-waits = ltb-true _ _ (and-right (not (eqb i s)) (ltb (st .replica i .N s) (st .replica s .N s)) two-and-waiting)
 
 module _ (r q : ℕ) (st : Chassis) (l : Ledger) (ok : Ok r q st l) (turns : Turns) (k : TurnsAre turns st) where
   some-made : (i s : ℕ) → st .replica i .N s ≤ length (st .log s)
@@ -68,19 +56,19 @@ module _ (r q : ℕ) (st : Chassis) (l : Ledger) (ok : Ok r q st l) (turns : Tur
 
   -- what an accepted deliver hands over
   handed-made : (i s : ℕ) → enabled r (deliver i s) st ≡ true → st .replica i .N s < length (st .log s)
-  handed-made i s on = rw (← (own-N-is r q st l ok s)) (one-waits r i s st on)
+  handed-made i s on = rw (← (own-N-is r q st l ok s)) (deliver-enabled r i s st on .waits)
 
   done-turns : (s : Step) → enabled r s st ≡ true → TurnsAre (turned s turns) (done r s st)
   unfolding turned done count-message clear-message
   done-turns (count i c w) on = issued-turns i _
   done-turns (clear i c) on = issued-turns i _
-  done-turns (deliver i s) on = delivered-turns i s (two-cards r i s st on) (handed-made i s on)
+  done-turns (deliver i s) on = delivered-turns i s (deliver-enabled r i s st on .apart) (handed-made i s on)
 
   belongs-is : (s : Step) → enabled r s st ≡ true → belongs q s turns ≡ eqb (step-counter s st) q
   unfolding belongs step-counter turn-is
   belongs-is (count i c w) on = refl
   belongs-is (clear i c) on = refl
-  belongs-is (deliver i s) on = rw (next-turn i s (two-cards r i s st on) (handed-made i s on))
+  belongs-is (deliver i s) on = rw (next-turn i s (deliver-enabled r i s st on .apart) (handed-made i s on))
 
   -- a step that may be declined
   stepped-turns : (o : Offer) → TurnsAre (cond (accepted r o st) (turned (o .step) turns) turns) (stepped r o st)

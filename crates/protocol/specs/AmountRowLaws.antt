@@ -2,13 +2,11 @@
 -- and what another card has of it is never more.
 use Prim.Native.Nat.{ℕ, suc, _+_, _≤_, _<_}
 use mathlib.Core.Path.{_≡_, refl, ap, _∙_}
-use mathlib.Core.Bool.{true, false, not}
+use mathlib.Core.Bool.{true, false}
 use mathlib.Core.List.{List, [], _∷_}
 use native.Mathlib.Omega.{arith}
-use lib.Dec.{eqb, ltb}
 use lib.ListN.{length, getD, List·getD-map}
-use borrow.Author.Tests.{eqb-false, not-true}
-use Rattle.protocol.specs.Cases.{by-place, by-test, and-left, and-right}
+use Rattle.protocol.specs.Cases.{by-place, by-test, and-right}
 use Rattle.protocol.specs.Tables.{put-same, put-other}
 use Rattle.protocol.specs.Ledger.{Ledger, Step, count, clear, deliver}
 use Rattle.protocol.specs.Chassis.{Message, increment, clearing, no-message, Chassis, fresh-chassis, count-message, clear-message, issued, delivered, done, enabled, Offer, accepted, stepped, run, units-of}
@@ -22,6 +20,7 @@ use Rattle.protocol.specs.Refusals.{after-units, within-own, received-wi
 use Rattle.protocol.specs.Theorem.{run-invariant}
 use Rattle.protocol.specs.Runs.{after-run, ledger-after}
 use Rattle.protocol.specs.AmountRows.{WellFormedRow, Plausible, StepWithin, StepsWithin}
+use Rattle.protocol.specs.Enabled.{deliver-enabled}
 
 -- no card's own C and N are above `most`
 pub record OwnWithin (most : ℕ) (st : Chassis) : Type 0 where
@@ -57,12 +56,10 @@ delivered-within most i s st apart k = record {
 }
 
 done-within : (most r : ℕ) (s : Step) (st : Chassis) → enabled r s st ≡ true → StepWithin most s st → OwnWithin most st → OwnWithin most (done r s st)
-unfolding enabled done count-message clear-message
+unfolding done count-message clear-message
 done-within most r (count i q w) st e h k = issued-within most i _ st (h .0) (h .1) k
 done-within most r (clear i q) st e h k = issued-within most i _ st h (let a = k .C≤ i in omega arith) k
-done-within most r (deliver i s) st e h k =
-    let e₂ = and-right (ltb s r) _ (and-right (ltb i r) _ e) in
-    delivered-within most i s st (eqb-false i s (not-true (eqb i s) (and-left (not (eqb i s)) _ e₂))) k
+done-within most r (deliver i s) st e h k = delivered-within most i s st (deliver-enabled r i s st e .apart) k
 
 pub stepped-within : (most r : ℕ) (o : Offer) (st : Chassis) → (accepted r o st ≡ true → StepWithin most (o .step) st)
     → OwnWithin most st → OwnWithin most (stepped r o st)

@@ -3,14 +3,14 @@
 -- of some card (`known-taken`). Every step is one of them, or both at its maker.
 use Prim.Native.Nat.{ℕ, suc, _+_, _≤_, _<_}
 use mathlib.Core.Path.{_≡_, refl, sym, ap, _∙_}
-use mathlib.Core.Bool.{true, false, not, cond, _&&_, false≢true}
+use mathlib.Core.Bool.{true, false, cond, _&&_, false≢true}
 use mathlib.Core.List.{List, [], _∷_, _++_, map, map-append}
 use native.Mathlib.Omega.{arith}
 use lib.Dec.{eqb, ltb, leb}
 use lib.ListN.{length, drop, length-map, List·getD-map}
 use lib.Seq.{drop-cons, drop-append-le}
-use borrow.Author.Tests.{ltb-true, lt-ltb, le-ltb, le-leb, lt-leb, eqb-false, eq-eqb, ne-eqb, not-true}
-use Rattle.protocol.specs.Cases.{by-place, by-le, by-test, and-left, and-right}
+use borrow.Author.Tests.{ltb-true, lt-ltb, le-ltb, le-leb, lt-leb, eq-eqb, ne-eqb}
+use Rattle.protocol.specs.Cases.{by-place, by-le, by-test, and-right}
 use Rattle.protocol.specs.Tables.{put, put-same, put-other, put-at, put-same-row, put-other-row, sum, sum-cong, sum-zero, sum-one}
 use Rattle.protocol.specs.Names.{Name, name, has}
 use Rattle.protocol.specs.NameLaws.{Prefixes, Prefixes-empty, add-next, latest-is}
@@ -24,6 +24,7 @@ use Rattle.protocol.specs.Theorem.{fresh-ok, step-ok}
 use Rattle.protocol.specs.History.{Sent, ids, History, empty-history, total, received-by, made-by, next-made, next-received, extended, recorded, history-after}
 use Rattle.protocol.specs.Messages.{Told, no-told, Table, message-at, MessageOk, AllOk, more, message-old, message-new, more-here, longer, all-more}
 use Rattle.protocol.specs.Causality.{CardKnows, card-more, card-takes, other-in-order, count-in-order, clear-in-order}
+use Rattle.protocol.specs.Enabled.{count-enabled, deliver-enabled}
 
 abbrev pub told-sent : Told → Sent
 told-sent t = t .sent
@@ -261,15 +262,12 @@ module _ (r q : ℕ) (st : Chassis) (l : Ledger) (h : History) (ok : Ok r q st l
 
   done-traced : (s : Step) → enabled r s st ≡ true → Traced r q (done r s st) (entered r q s l) (extended s h)
   unfolding enabled done entered extended
-  done-traced (count i c w) e = count-traced i c w (ltb-true i r (and-left (ltb i r) (ltb 0 w) e)) (count-message i c w (st .replica i))
+  done-traced (count i c w) e = count-traced i c w (count-enabled r i c w st e .0) (count-message i c w (st .replica i))
   done-traced (clear i c) e = clear-traced i c (ltb-true i r e) (clear-message r c (st .replica i))
   done-traced (deliver i s) e =
-      let e₁ = and-right (ltb i r) _ e in
-      let e₂ = and-right (ltb s r) _ e₁ in
-      let e₃ = not-true (eqb i s) (and-left (not (eqb i s)) _ e₂) in
-      let e₄ = ltb-true (st .replica i .N s) (st .replica s .N s) (and-right (not (eqb i s)) (ltb (st .replica i .N s) (st .replica s .N s)) e₂) in
-      delivered-traced r q st l h k i s (ltb-true s r (and-left (ltb s r) _ e₁)) (eqb-false i s e₃)
-      (let a = k .counted i s in let b = k .counted s s in let c = k .own s in omega arith)
+      let on = deliver-enabled r i s st e in
+      delivered-traced r q st l h k i s (on .sender) (on .apart)
+      (let w = on .waits in let a = k .counted i s in let b = k .counted s s in let c = k .own s in omega arith)
 
 -- ---- a list of steps
 

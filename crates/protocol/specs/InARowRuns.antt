@@ -2,15 +2,15 @@
 -- the effectors of the message's updates do (`message-effectors`), and a link's queue has the updates of the messages that wait (`Same`).
 use Prim.Native.Nat.{ℕ, zero, suc, _-_, _≤_, _<_}
 use mathlib.Core.Path.{_≡_, refl, sym, ap, ap₂, fun-ext, _∙_}
-use mathlib.Core.Bool.{Bool, true, false, not, cond}
+use mathlib.Core.Bool.{Bool, true, false, cond}
 use mathlib.Core.Logic.{inl}
 use mathlib.Core.List.{List, [], _∷_, _++_, map, map-append}
 use native.Mathlib.Omega.{arith}
-use lib.Dec.{eqb, ltb}
+use lib.Dec.{ltb}
 use lib.ListN.{length, getD, drop, List·getD-map}
 use lib.Seq.{drop-cons, drop-append-le}
-use borrow.Author.Tests.{ltb-true, eqb-false, not-true}
-use Rattle.protocol.specs.Cases.{by-test, by-place, and-left, and-right}
+use borrow.Author.Tests.{ltb-true}
+use Rattle.protocol.specs.Cases.{by-test, by-place, and-right}
 use Rattle.protocol.specs.Tables.{put, put-same, put-at, put-other, put-same-row, put-other-row, put-cases}
 use Rattle.protocol.specs.Lists.{places-more}
 use Rattle.protocol.specs.Entry.{Entry, present, count-starts}
@@ -33,6 +33,7 @@ use Rattle.protocol.specs.Algorithm1.{Slot, State, Update, reset-generat
 use Rattle.protocol.specs.Algorithm1Laws.{reset-message-agrees, reset-effector-agrees, reset-effector-C}
 use Rattle.protocol.specs.InARow.{effector, effectors, inc-generators, Instances, instance, Lot, effected, System, initial, made, next-lot, rest-lots, handed, entered, fed, kept, algorithm-1-after, instances-of, singles, updates-of}
 use Rattle.protocol.specs.InARowLaws.{state-is, EntriesWellFormed, Against, against-well-formed, effectors-are, generators-are}
+use Rattle.protocol.specs.Enabled.{count-enabled, deliver-enabled}
 
 -- a clear's entries have "1 <= p"
 abbrev pub Proper-entries : Message → Type 0
@@ -262,14 +263,10 @@ module _ (r : ℕ) (x : System) (st : Chassis) (l : ℕ → Ledger) (ok : (q : �
       handed-here x st k i s apart waits₁ (waiting-effectors r q st (l q) (ok q) i s waits m refl refl (k .entries s (st .replica i .N s) waits₁))
 
   done-same : (s : Step) → enabled r s st ≡ true → Same (entered r s x) (done r s st)
-  unfolding enabled done
-  done-same (count i q w) e = count-same i q w (ltb-true 0 w (and-right (ltb i r) (ltb 0 w) e))
+  unfolding done
+  done-same (count i q w) e = count-same i q w (count-enabled r i q w st e .1)
   done-same (clear i q) e = clear-same i q
-  done-same (deliver i s) e =
-      let e₁ = and-right (ltb i r) _ e in
-      let e₂ = and-right (ltb s r) _ e₁ in
-      deliver-same i s (eqb-false i s (not-true (eqb i s) (and-left (not (eqb i s)) _ e₂)))
-      (ltb-true (st .replica i .N s) (st .replica s .N s) (and-right (not (eqb i s)) _ e₂))
+  done-same (deliver i s) e = let on = deliver-enabled r i s st e in deliver-same i s (on .apart) (on .waits)
 
   pub step-same : (o : Offer) → Same (fed r (o .step) (accepted r o st) x) (stepped r o st)
   unfolding fed stepped
@@ -310,8 +307,7 @@ deliver-leaves r i s os e m f =
     let q = counter-of m in
     let k = run-invariant r q os in
     let l = ledger-after r q os in
-    let e₁ = and-right (not (eqb i s)) _ (and-right (ltb s r) _ (and-right (ltb i r) _ e)) in
-    let waits = ltb-true (st .replica i .N s) (st .replica s .N s) e₁ in
+    let waits = deliver-enabled r i s st e .waits in
     let waits₁ : st .replica i .N s < length (st .log s) = rw (own-N-is r q st l k s) at waits in
     let some : Proper-entries m = rw f at (after-same r os .entries s (st .replica i .N s) waits₁) in
     rw (put-same i (taken s (getD (st .log s) (st .replica i .N s) no-message) (st .replica i)) (st .replica), f)

@@ -50,6 +50,7 @@ pub mod Chain
 pub mod Pairs
 pub mod Cards
 pub mod Makers
+pub mod Enabled
 pub mod Steps
 pub mod Theorem
 -- What else the invariant gives.

@@ -7,11 +7,10 @@ use mathlib.Core.List.{List, [], _∷_, _++_, map, map-append, map-map}
 use mathlib.Core.Logic.{_⊎_, inl, inr}
 use native.Mathlib.Omega.{arith}
 use lib.ListN.{length, take}
-use borrow.Author.Tests.{lt-ltb, ne-eqb}
 use Rattle.protocol.specs.Cases.{by-place}
 use Rattle.protocol.specs.Tables.{put, put-same, put-other}
 use Rattle.protocol.specs.Ledger.{empty-ledger, kept}
-use Rattle.protocol.specs.Chassis.{Chassis, fresh-chassis, delivered, done, enabled, Offer, accepted, stepped, run, answers}
+use Rattle.protocol.specs.Chassis.{Chassis, fresh-chassis, delivered, done, Offer, accepted, stepped, run, answers}
 use Rattle.protocol.specs.Runs.{step-of, after-run, ledger-after, all-accepted}
 use Rattle.protocol.specs.Steps.{Ok, taken-N}
 use Rattle.protocol.specs.Theorem.{run-invariant}
@@ -22,6 +21,7 @@ use Rattle.protocol.specs.RoundRobinEnd.{stops, drained, never-passed}
 use Rattle.protocol.specs.RoundRobinBound.{served-within}
 use Rattle.protocol.specs.Pending.{deliver-offer, chassis-links, offers, pump, all-waiting, after-pumps, pumped, ledger-after-pumps}
 use Rattle.protocol.specs.RunLaws.{run-append, answers-append}
+use Rattle.protocol.specs.Enabled.{deliverable}
 
 -- ---- one delivery
 
@@ -50,9 +50,7 @@ module _ (r : ℕ) where
   accepted-is i s st e = rw e
 
   waits-accepted : (i s : ℕ) (st : Chassis) → IsLink r i s → 0 < st .replica s .N s - st .replica i .N s → accepted r (deliver-offer i s) st ≡ true
-  unfolding enabled
-  waits-accepted i s st k w =
-      rw (lt-ltb i r (k .0), lt-ltb s r (k .1), ne-eqb i s (k .2), lt-ltb (st .replica i .N s) (st .replica s .N s) (omega arith))
+  waits-accepted i s st k w = deliverable r i s st (record { receiver = k .0; sender = k .1; apart = k .2; waits = omega arith })
 
   pub chassis-orderly : Orderly (chassis-links r) r (λ st. Unit {0})
   unfolding stepped

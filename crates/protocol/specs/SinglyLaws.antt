@@ -2,13 +2,13 @@
 -- of w updates against w lots of one update, the queues of the one being those of the other taken apart (`Flat`).
 use Prim.Native.Nat.{ℕ, zero, suc, _<_}
 use mathlib.Core.Path.{_≡_, refl, sym, ap, _∙_}
-use mathlib.Core.Bool.{Bool, true, false, not, cond}
+use mathlib.Core.Bool.{Bool, true, false, cond}
 use mathlib.Core.List.{List, [], _∷_, _++_, map, append-nil, append-assoc}
 use native.Mathlib.Omega.{arith}
-use lib.Dec.{eqb, ltb}
+use lib.Dec.{ltb}
 use lib.ListN.{length, getD, drop, drop-of-length-le}
-use borrow.Author.Tests.{lt-ltb, ltb-true, eqb-false, ne-eqb, not-true}
-use Rattle.protocol.specs.Cases.{by-test, by-place, by-le, and-yes, and-left, and-right}
+use borrow.Author.Tests.{lt-ltb}
+use Rattle.protocol.specs.Cases.{by-test, by-place, by-le, and-yes, and-right}
 use Rattle.protocol.specs.Tables.{put, put-same, put-at, put-other, put-same-row, put-other-row}
 use Rattle.protocol.specs.Ledger as ledger
 use Rattle.protocol.specs.Ledger.{Ledger, Step, count, clear, deliver, empty-ledger}
@@ -25,6 +25,7 @@ use Rattle.protocol.specs.InARow.{effector, effectors, inc-generators, I
 use Rattle.protocol.specs.InARowRuns.{well-formed, lot-of, instances-are, Same, fresh-same, its-message, link, step-same}
 use Rattle.protocol.specs.Singly.{times, singles-in, single-steps, expanded, in-single-steps}
 use Rattle.protocol.specs.RunLaws.{run-append}
+use Rattle.protocol.specs.Enabled.{count-enabled, deliver-enabled, deliverable}
 
 abbrev lot : ℕ → List Update → Lot
 lot q us = record { counter = q; updates = us }
@@ -195,10 +196,9 @@ some-waits y st i s first rest k apart e =
 
 one-delivery : (r i s : ℕ) (y : System) (st : Chassis) (first : Lot) (rest : List Lot) → Reached r y st → i < r → s < r → (i ≡ s → ⊥) → y .queue s i ≡ first ∷ rest
     → enabled r (deliver i s) st ≡ true
-unfolding enabled
 one-delivery r i s y st first rest h hi hs apart e =
     let waits : st .replica i .N s < st .replica s .N s = rw (own-N-is r 0 st (h .ledgers 0) (h .oks 0) s) (some-waits y st i s first rest (h .same) apart e) in
-    rw (lt-ltb i r hi, lt-ltb s r hs, ne-eqb i s apart) (lt-ltb (st .replica i .N s) (st .replica s .N s) waits)
+    deliverable r i s st (record { receiver = hi; sender = hs; apart = apart; waits = waits })
 
 deliveries-reached : (r i s q : ℕ) (us : List Update) (rest : List Lot) (y : System) (st : Chassis) → i < r → s < r → (i ≡ s → ⊥) → y .queue s i ≡ split q us ++ rest
     → Reached r y st → Reached r (handed-singly i s (length us) y) (run r (times (length us) (deliver i s)) st)
@@ -229,12 +229,12 @@ updates-length s (clearing q ts) = refl
 
 module _ (r : ℕ) (st st′ : Chassis) (b : Both r st st′) where
   count-both : (i q w : ℕ) → enabled r (count i q w) st ≡ true → Both r (stepped r (willing (count i q w)) st) (run r (times w (count i q 1)) st′)
-  unfolding enabled entered
+  unfolding entered
   count-both i q w e = record {
     x = entered r (count i q w) (b .x);
     y = made-singly i q (inc-generators i w (instance q (b .y .replica i))) (b .y);
     here = reached-done r (b .x) st (count i q w) e (b .here);
-    there = counts-reached r i q w (b .y) st′ (ltb-true i r (and-left (ltb i r) (ltb 0 w) e)) (b .there);
+    there = counts-reached r i q w (b .y) st′ (count-enabled r i q w st e .0) (b .there);
     apart = rw (b .apart .replicas i) (made-flat i q (inc-generators i w (instance q (b .x .replica i))) (b .x) (b .y) (b .apart));
   }
 
@@ -250,23 +250,18 @@ module _ (r : ℕ) (st st′ : Chassis) (b : Both r st st′) where
 
   deliver-both : (i s : ℕ) → enabled r (deliver i s) st ≡ true
       → Both r (stepped r (willing (deliver i s)) st) (run r (times (singles-in (getD (st .log s) (st .replica i .N s) no-message)) (deliver i s)) st′)
-  unfolding enabled entered its-message flat
+  unfolding entered its-message flat
   deliver-both i s e =
-      let e₁ = and-right (ltb i r) _ e in
-      let e₂ = and-right (ltb s r) _ e₁ in
-      let hi = ltb-true i r (and-left (ltb i r) _ e) in
-      let hs = ltb-true s r (and-left (ltb s r) _ e₁) in
-      let far = eqb-false i s (not-true (eqb i s) (and-left (not (eqb i s)) _ e₂)) in
-      let waits = ltb-true (st .replica i .N s) (st .replica s .N s) (and-right (not (eqb i s)) _ e₂) in
-      let waits₁ : st .replica i .N s < length (st .log s) = rw (own-N-is r 0 st (b .here .ledgers 0) (b .here .oks 0) s) at waits in
+      let on = deliver-enabled r i s st e in
+      let waits₁ : st .replica i .N s < length (st .log s) = rw (own-N-is r 0 st (b .here .ledgers 0) (b .here .oks 0) s) at (on .waits) in
       let m = getD (st .log s) (st .replica i .N s) no-message in
-      let turn = link (b .x) st (b .here .same) i s far waits₁ in
+      let turn = link (b .x) st (b .here .same) i s (on .apart) waits₁ in
       let rest = map (lot-of s) (drop (suc (st .replica i .N s)) (st .log s)) in
       rw (← (updates-length s m)) (record {
         x = handed i s (b .x);
         y = handed-singly i s (length (updates-of s m)) (b .y);
         here = reached-done r (b .x) st (deliver i s) e (b .here);
-        there = deliveries-reached r i s (counter-of m) (updates-of s m) (flat rest) (b .y) st′ hi hs far (b .apart .queues s i ∙ ap flat turn) (b .there);
+        there = deliveries-reached r i s (counter-of m) (updates-of s m) (flat rest) (b .y) st′ (on .receiver) (on .sender) (on .apart) (b .apart .queues s i ∙ ap flat turn) (b .there);
         apart = handed-flat i s (counter-of m) (updates-of s m) rest (b .x) (b .y) turn (b .apart);
       })
 

@@ -2,12 +2,12 @@
 -- gives what a card reads (`value-is`, `holders-are`). So after any list of steps a card reads of a counter what that counter's ledger says.
 use Prim.Native.Nat.{ℕ, zero, suc, _^_, _≤_, _<_}
 use mathlib.Core.Path.{_≡_, refl, sym, ap, _∙_}
-use mathlib.Core.Bool.{Bool, true, not, cond}
+use mathlib.Core.Bool.{Bool, true, cond}
 use mathlib.Core.List.{List, [], _∷_, map}
 use native.Mathlib.Omega.{arith}
-use lib.Dec.{eqb, ltb}
-use borrow.Author.Tests.{ltb-true, eqb-false, eq-eqb, ne-eqb, not-true}
-use Rattle.protocol.specs.Cases.{by-place, by-test, and-left, and-right}
+use lib.Dec.{eqb}
+use borrow.Author.Tests.{ltb-true, eq-eqb, ne-eqb}
+use Rattle.protocol.specs.Cases.{by-place, by-test, and-right}
 use Rattle.protocol.specs.Tables.{sum-cong, bits}
 use Rattle.protocol.specs.Entry.{absent}
 use Rattle.protocol.specs.Marks.{no-messages}
@@ -21,6 +21,7 @@ use Rattle.protocol.specs.Makers.{count-note, count-sends, count-in-orde
 use Rattle.protocol.specs.Steps.{items, issued-ok, delivered-ok}
 pub use Rattle.protocol.specs.Steps.{Ok}
 pub use Rattle.protocol.specs.Runs.{step-of, after-run, ledger-after}
+use Rattle.protocol.specs.Enabled.{count-enabled, deliver-enabled}
 
 -- ---- the fresh chassis
 
@@ -87,14 +88,9 @@ module _ (r q : ℕ) (st : Chassis) (l : Ledger) (k : Ok r q st l) where
 
   pub done-ok : (s : Step) → enabled r s st ≡ true → Ok r q (done r s st) (entered r q s l)
   unfolding enabled done entered
-  done-ok (count i c w) e = count-ok i c w (ltb-true i r (and-left (ltb i r) (ltb 0 w) e)) (ltb-true 0 w (and-right (ltb i r) (ltb 0 w) e))
+  done-ok (count i c w) e = let on = count-enabled r i c w st e in count-ok i c w (on .0) (on .1)
   done-ok (clear i c) e = clear-ok i c (ltb-true i r e)
-  done-ok (deliver i s) e =
-      let e₁ = and-right (ltb i r) _ e in
-      let e₂ = and-right (ltb s r) _ e₁ in
-      let e₃ = not-true (eqb i s) (and-left (not (eqb i s)) _ e₂) in
-      let e₄ = and-right (not (eqb i s)) (ltb (st .replica i .N s) (st .replica s .N s)) e₂ in
-      delivered-ok r q st l k i s (eqb-false i s e₃) (rw (← (k .own s)) (ltb-true (st .replica i .N s) (st .replica s .N s) e₄))
+  done-ok (deliver i s) e = let on = deliver-enabled r i s st e in delivered-ok r q st l k i s (on .apart) (rw (← (k .own s)) (on .waits))
 
 -- ---- a list of steps
 
