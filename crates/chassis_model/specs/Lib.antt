@@ -8,11 +8,15 @@ pub mod Run
 pub mod Ledger
 pub mod Answers
 pub mod Driver
+pub mod Algorithm1Of
+pub mod HistoryOf
 -- CLAIMS
 pub mod Claims
 pub mod Scenarios
 pub mod DriverClaims
 pub mod DriverExamples
+pub mod Algorithm1Claims
+pub mod CaughtUpClaims
 -- LAWS. Lists in parts, logs of messages.
 pub mod PartLaws
 pub mod LogLaws
@@ -24,6 +28,9 @@ pub mod Accepted
 pub mod Reads
 pub mod Sends
 pub mod Takes
+-- Lists of steps and answers as runs of the theory.
+pub mod Offers
+pub mod TheoryReads
 -- A state of a run beside them, and the steps, each beside the theory's.
 pub mod Matches
 pub mod Fresh

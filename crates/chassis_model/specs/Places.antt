@@ -134,7 +134,7 @@ module _ (r k L : ℕ) (st : State) (places : List ℕ) (h : Reached r k L st pl
   made-reached counts i q hi = record {
     chassis = _;
     ledgers = _;
-    matches = made-matches r k L st (h .chassis) (h .ledgers) (h .matches) counts i q hi;
+    matches = made-matches r k L st (h .chassis) (h .ledgers) (h .matches) counts i q hi .0;
     places-are = rw (free-place-is i hi) (places-made i hi counts q);
   }
 
@@ -146,7 +146,7 @@ module _ (r k L : ℕ) (st : State) (places : List ℕ) (h : Reached r k L st pl
   delivered-reached i s hi hs apart waits = record {
     chassis = _;
     ledgers = _;
-    matches = link-matches r k L st (h .chassis) (h .ledgers) (h .matches) i s hi hs apart;
+    matches = link-matches r k L st (h .chassis) (h .ledgers) (h .matches) i s hi hs apart .0;
     places-are =
         rw (
           one-delivered r k L st (h .chassis) (h .ledgers) (h .matches) i s hi hs waits apart,
