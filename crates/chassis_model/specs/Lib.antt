@@ -15,6 +15,7 @@ pub mod Claims
 pub mod Scenarios
 pub mod DriverClaims
 pub mod DriverExamples
+pub mod AloneClaims
 pub mod Algorithm1Claims
 pub mod CaughtUpClaims
 -- LAWS. Lists in parts, logs of messages.
@@ -41,6 +42,7 @@ pub mod Steps
 -- What follows: answers, the theorem; and for the code, the places of the links.
 pub mod AnswerLaws
 pub mod Theorem
+pub mod AloneLaws
 pub mod Ends
 pub mod Places
 -- The waiting message by its place.
