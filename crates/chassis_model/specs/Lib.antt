@@ -8,7 +8,9 @@ pub mod Run
 pub mod Ledger
 pub mod Answers
 pub mod Driver
+pub mod AloneOf
 pub mod Algorithm1Of
+pub mod Pending
 pub mod HistoryOf
 -- CLAIMS
 pub mod Claims
@@ -43,6 +45,8 @@ pub mod Steps
 pub mod AnswerLaws
 pub mod Theorem
 pub mod AloneLaws
+pub mod PendingChecked
+pub mod PendingLaws
 pub mod Ends
 pub mod Places
 -- The waiting message by its place.

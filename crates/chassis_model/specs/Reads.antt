@@ -15,14 +15,9 @@ use Rattle.replica_model.specs.Layout.{cards, counters, entry-of}
 use Rattle.replica_model.specs.Store.{layout}
 use Rattle.replica_model.specs.Calls.{count-below, reading, read-on}
 use Rattle.replica_model.specs.Terms.{Right, RowOf, holders}
-use Rattle.replica_model.specs.RowLaws.{right-from, row-from}
+use Rattle.replica_model.specs.RowLaws.{count-cong, right-from, row-from}
 use Rattle.chassis_model.specs.Ledger.{ledger-reading}
 use Rattle.chassis_model.specs.InStep.{Heads, InStep, reached-right, reached-row}
-
-count-cong : (n : ℕ) (f g : ℕ → Bool) → ((j : ℕ) → j < n → f j ≡ g j) → count-below n f ≡ count-below n g
-unfolding count-below
-count-cong zero f g e = refl
-count-cong (suc n) f g e = rw (count-cong n f g (λ j l. e j (omega arith)), e n (omega arith))
 
 -- where the checks pass
 read-passes : (b : List ℕ) (q : ℕ) → Right b → q < counters b → RowOf b q → read-on b q ≡ reading b q

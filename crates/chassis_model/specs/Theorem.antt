@@ -27,11 +27,11 @@ use Rattle.chassis_model.specs.TheoryReads.{reading-is}
 use Rattle.chassis_model.specs.AnswerLaws.{step-answer, answer-at, due-is-answer}
 
 -- the ledgers after a list of steps
-abbrev ledgers-after : ℕ → ℕ → ℕ → List Step → State → (ℕ → Ledger) → ℕ → Ledger
+abbrev pub ledgers-after : ℕ → ℕ → ℕ → List Step → State → (ℕ → Ledger) → ℕ → Ledger
 ledgers-after r k L ss st ls q = kept r q (map ledger-step ss) (map was-accepted (answers-of r k L ss st)) (ls q)
 
 -- the list as the theory has it, from a state on
-abbrev run-offers : ℕ → ℕ → ℕ → List Step → State → List Offer
+abbrev pub run-offers : ℕ → ℕ → ℕ → List Step → State → List Offer
 run-offers r k L ss st = offers-of (map ledger-step ss) (answers-of r k L ss st)
 
 offers-steps : (r k L : ℕ) (ss : List Step) (st : State) → map step-of (run-offers r k L ss st) ≡ map ledger-step ss
@@ -39,7 +39,7 @@ unfolding answers-of offers-of
 offers-steps r k L [] st = refl
 offers-steps r k L (s ∷ ss) st = ap {B = List ledger.Step} (λ xs. ledger-step s ∷ xs) (offers-steps r k L ss (step-on r k L s st .state))
 
-run-matches : (r k L : ℕ) (ss : List Step) (st : State) (ch : Chassis) (ls : ℕ → Ledger) → Matches r k L st ch ls
+pub run-matches : (r k L : ℕ) (ss : List Step) (st : State) (ch : Chassis) (ls : ℕ → Ledger) → Matches r k L st ch ls
     → Matches r k L (state-after r k L ss st) (run r (run-offers r k L ss st) ch) (ledgers-after r k L ss st ls)
     × (protocol.answers r (run-offers r k L ss st) ch ≡ map was-accepted (answers-of r k L ss st))
 unfolding state-after answers-of offers-of kept run protocol.answers

@@ -1,0 +1,168 @@
+-- LAWS. `deliver-pending` over the words and bytes that a run leaves: what waits is accepted, so a call is the run of its deliveries as deliver steps, each
+-- answered with 0, and where nothing waits any more all cards read the same.
+use Prim.Native.Nat.{ℕ, suc, _-_, _*_, _≤_, _<_}
+use mathlib.Core.Path.{_≡_, refl, sym, ap, ap₂, _∙_}
+use mathlib.Core.Bool.{true, false, true≢false}
+use mathlib.Core.List.{List, [], _∷_, _++_, map}
+use native.Mathlib.Omega.{arith}
+use lib.Dec.{eqb}
+use lib.ListN.{length}
+use borrow.Author.Tests.{lt-ltb, ne-eqb, eqb-true}
+use Rattle.protocol.specs.Ledger.{Ledger, empty-ledger, holds}
+use Rattle.protocol.specs.Chassis as protocol
+use Rattle.protocol.specs.Chassis.{Chassis, fresh-chassis}
+use Rattle.protocol.specs.Theorem.{value-is, holders-are}
+use Rattle.protocol.specs.Arrivals.{Arrivals, kept-arrivals}
+use Rattle.protocol.specs.Agreement.{cards-agree, received-all, same-holds}
+use Rattle.protocol.specs.RoundRobin.{Link, IsLink, Transport, replayed, AllDeliver, Orderly}
+use Rattle.protocol.specs.RoundRobinMade.{CallOk, call-ok}
+use Rattle.protocol.specs.RoundRobinEnd.{drained, never-passed}
+use Rattle.protocol.specs.PendingLaws.{N-link, N-elsewhere}
+use Rattle.replica_model.specs.Calls.{read-on}
+use Rattle.replica_model.specs.RowLaws.{count-cong}
+use Rattle.chassis_model.specs.Run.{Step, State, N-at, replica-of, delivered, cards-right, step-on, state-after, answers-of, deliver-kind}
+use Rattle.chassis_model.specs.Ledger.{ledger-reading}
+use Rattle.chassis_model.specs.Answers.{fresh-state}
+use Rattle.chassis_model.specs.InStep.{InStep, reached-N}
+use Rattle.chassis_model.specs.Matches.{Sizes, Matches}
+use Rattle.chassis_model.specs.Fresh.{fresh-matches}
+use Rattle.chassis_model.specs.Reads.{read-matches}
+use Rattle.chassis_model.specs.Stepping.{step-of-kind}
+use Rattle.chassis_model.specs.Delivered.{one-delivered, delivered-is-alike}
+use Rattle.chassis_model.specs.Steps.{link-matches}
+use Rattle.chassis_model.specs.Theorem.{run-matches}
+use Rattle.chassis_model.specs.Pending.{state-links, pump, all-waiting, pump-steps}
+
+-- a state that a run, and deliveries behind it, can reach
+record Reached (r k L : ℕ) (st : State) : Type 0 where
+  chassis : Chassis
+  ledgers : ℕ → Ledger
+  matches : Matches r k L st chassis ledgers
+
+module _ (r k L : ℕ) (i s : ℕ) (st : State) (is : IsLink r i s) (g : Reached r k L st) (w : 0 < N-at r k L st s s - N-at r k L st i s) where
+  accepts : eqb (delivered r k L i s st .answer) 0 ≡ true
+  accepts = rw (one-delivered r k L st (g .chassis) (g .ledgers) (g .matches) i s (is .0) (is .1) (omega arith) (is .2))
+
+  after : Reached r k L (delivered r k L i s st .state)
+  after = record { chassis = _; ledgers = _; matches = link-matches r k L st (g .chassis) (g .ledgers) (g .matches) i s (is .0) (is .1) (is .2) .0 }
+
+  -- N after it, as the words have it
+  N-after : (j u : ℕ) → j < r → u < r → N-at r k L (delivered r k L i s st .state) j u ≡ protocol.delivered i s (g .chassis) .replica j .N u
+  N-after j u hj hu =
+      rw (one-delivered r k L st (g .chassis) (g .ledgers) (g .matches) i s (is .0) (is .1) (omega arith) (is .2))
+      (delivered-is-alike r k L st (g .chassis) (g .ledgers) (g .matches) i s (is .0) (is .1) (omega arith) (is .2) .shows j hj .Ns u hu)
+
+module _ (r k L : ℕ) where
+  N-is : (st : State) (g : Reached r k L st) (i s : ℕ) → i < r → s < r → N-at r k L st i s ≡ g .chassis .replica i .N s
+  N-is st g i s hi hs = reached-N r k (replica-of r k L st) (g .chassis) (g .ledgers) (g .matches .cards) i s hi hs
+
+  reached-orderly : Orderly (state-links r k L) r (Reached r k L)
+  reached-orderly = record {
+    keeps = λ i s st is g w e. after r k L i s st is g w;
+    takes-one = λ i s st is g w e.
+        let a = N-after r k L i s st is g w s s (is .1) (is .1) in
+        let b = N-after r k L i s st is g w i s (is .0) (is .1) in
+        let c = N-link i s (g .chassis) i s refl refl in
+        let d = N-elsewhere i s (g .chassis) s s (λ x y. is .2 (sym x)) in
+        let x = N-is st g i s (is .0) (is .1) in
+        let y = N-is st g s s (is .1) (is .1) in
+        omega arith;
+    others-stay = λ i s st is g w e j u js far.
+        let a = N-after r k L i s st is g w u u (js .1) (js .1) in
+        let b = N-after r k L i s st is g w j u (js .0) (js .1) in
+        let c = N-elsewhere i s (g .chassis) j u far in
+        let d = N-elsewhere i s (g .chassis) u u (λ x y. is .2 (sym x ∙ y)) in
+        let x = N-is st g j u (js .0) (js .1) in
+        let y = N-is st g u u (js .1) (js .1) in
+        omega arith;
+    declined-stays = λ i s st is g w e. absurd (true≢false (sym (accepts r k L i s st is g w) ∙ e));
+  }
+
+  -- ---- deliveries as steps
+
+  link-step : (i s : ℕ) (st : State) → IsLink r i s → step-on r k L (step-of-kind deliver-kind i s) st ≡ delivered r k L i s st
+  unfolding step-on cards-right
+  link-step i s st is = rw (lt-ltb i r (is .0), lt-ltb s r (is .1), ne-eqb i s (is .2))
+
+  replayed-steps : (ls : List Link) (st : State) → AllDeliver (state-links r k L) r ls st → replayed (state-links r k L) ls st ≡ state-after r k L (pump-steps ls) st
+  unfolding replayed AllDeliver state-after
+  replayed-steps [] st a = refl
+  replayed-steps (l ∷ ls) st a =
+      replayed-steps ls (delivered r k L (l .receiver) (l .sender) st .state) (a .1)
+      ∙ ap (λ z. state-after r k L (pump-steps ls) (z .state)) (sym (link-step (l .receiver) (l .sender) st (a .0 .0)))
+
+  answered : (ls : List Link) (st : State) → AllDeliver (state-links r k L) r ls st → answers-of r k L (pump-steps ls) st ≡ map (λ l. 0) ls
+  unfolding AllDeliver answers-of
+  answered [] st a = refl
+  answered (l ∷ ls) st a =
+      let e = link-step (l .receiver) (l .sender) st (a .0 .0) in
+      ap₂ _∷_ (ap (λ z. z .answer) e ∙ eqb-true (delivered r k L (l .receiver) (l .sender) st .answer) 0 (a .0 .2))
+      (ap (λ z. answers-of r k L (pump-steps ls) (z .state)) e ∙ answered ls (delivered r k L (l .receiver) (l .sender) st .state) (a .1))
+
+  after-append : (ss ts : List Step) (st : State) → state-after r k L (ss ++ ts) st ≡ state-after r k L ts (state-after r k L ss st)
+  unfolding state-after
+  after-append [] ts st = refl
+  after-append (s ∷ ss) ts st = after-append ss ts (step-on r k L s st .state)
+
+-- ---- cards to which nothing more has to come
+
+module _ (r k L : ℕ) (st : State) (ch : Chassis) (ls : ℕ → Ledger) (h : InStep r k (replica-of r k L st) ch ls) (come : (q : ℕ) → Arrivals (ls q))
+    (none : (i s : ℕ) → IsLink r i s → state-links r k L .waiting i s st ≡ 0) where
+  all-come : (i : ℕ) → i < r → (s : ℕ) → IsLink r i s → ch .replica s .N s ≤ ch .replica i .N s
+  all-come i hi s is =
+      let a = reached-N r k (replica-of r k L st) ch ls h s s (is .1) (is .1) in
+      let b = reached-N r k (replica-of r k L st) ch ls h i s (is .0) (is .1) in
+      let c = none i s is in
+      omega arith
+
+  reads-agree : (i j q : ℕ) → i < r → j < r → q < k → read-on (replica-of r k L st i) q ≡ read-on (replica-of r k L st j) q
+  unfolding ledger-reading
+  reads-agree i j q hi hj hq =
+      let ok = h .oks q in
+      let same = cards-agree r q ch (ls q) ok (come q) i j hi hj (all-come i hi) (all-come j hj) in
+      let e = received-all r q ch (ls q) ok i hi (all-come i hi) in let e′ = received-all r q ch (ls q) ok j hj (all-come j hj) in
+      read-matches r k (replica-of r k L st) ch ls h i q hi hq
+      ∙ rw (
+        sym (value-is r q ch (ls q) ok i) ∙ same .0 ∙ value-is r q ch (ls q) ok j,
+        sym (holders-are r q ch (ls q) ok i) ∙ same .1 ∙ holders-are r q ch (ls q) ok j,
+        count-cong r (λ o. holds i o (ls q)) (λ o. holds j o (ls q)) (λ o m. same-holds r q ch (ls q) ok (come q) i j e e′ o),
+      )
+      (sym (read-matches r k (replica-of r k L st) ch ls h j q hj hq))
+
+-- ---- a call after a run
+
+module _ (r k L : ℕ) (steps : List Step) (logs : List ℕ) (z : Sizes r k) (fits : length logs ≡ r * L) (b : ℕ) where
+  abbrev start : State
+  start = fresh-state r k L logs
+
+  abbrev st : State
+  st = state-after r k L steps start
+
+  reached : (ss : List Step) → Reached r k L (state-after r k L ss start)
+  reached ss = record { chassis = _; ledgers = _; matches = run-matches r k L ss start fresh-chassis (λ q. empty-ledger) (fresh-matches r k L logs z fits) .0 }
+
+  call : CallOk (state-links r k L) r (Reached r k L) st (pump r k L b st)
+  call = call-ok (state-links r k L) r (Reached r k L) (reached-orderly r k L) b st (reached steps)
+
+  pub never-passes : (i s : ℕ) → pump r k L b st .passed i s ≡ false
+  never-passes = never-passed (state-links r k L) r b (Reached r k L) (reached-orderly r k L) st (reached steps) (λ i s st is g w. accepts r k L i s st is g w)
+
+  pub call-is-steps : pump r k L b st .state ≡ state-after r k L (steps ++ pump-steps (pump r k L b st .made)) start
+  call-is-steps =
+      call .replays
+      ∙ replayed-steps r k L (pump r k L b st .made) st (call .delivers)
+      ∙ sym (after-append r k L steps (pump-steps (pump r k L b st .made)) start)
+
+  pub call-answers : answers-of r k L (pump-steps (pump r k L b st .made)) st ≡ map (λ l. 0) (pump r k L b st .made)
+  call-answers = answered r k L (pump r k L b st .made) st (call .delivers)
+
+  pub call-agrees : all-waiting r k L st ≤ b → (i j q : ℕ) → i < r → j < r → q < k
+      → read-on (replica-of r k L (pump r k L b st .state) i) q ≡ read-on (replica-of r k L (pump r k L b st .state) j) q
+  call-agrees enough i j q hi hj hq =
+      let all = steps ++ pump-steps (pump r k L b st .made) in
+      let none : (i s : ℕ) → IsLink r i s → state-links r k L .waiting i s (state-after r k L all start) ≡ 0
+      = rw call-is-steps at
+      (drained (state-links r k L) r b (Reached r k L) (reached-orderly r k L) st (reached steps) (λ i s is. never-passes i s) enough) in
+      rw call-is-steps
+      (reads-agree r k L (state-after r k L all start) _ _ (run-matches r k L all start fresh-chassis (λ q. empty-ledger) (fresh-matches r k L logs z fits) .0 .cards)
+      (λ q. kept-arrivals r q _ _) none i j q hi hj hq)
