@@ -19,6 +19,7 @@ pub mod DriverClaims
 pub mod DriverExamples
 pub mod AloneClaims
 pub mod Algorithm1Claims
+pub mod PendingClaims
 pub mod CaughtUpClaims
 -- LAWS. Lists in parts, logs of messages.
 pub mod PartLaws

@@ -1,8 +1,8 @@
 -- LAWS. The transport of words and bytes is orderly on every state that the checks before a call pass (`Checked`), reached by a run or not: a delivery that is
 -- accepted raises the receiver's N of the sender by one and nothing else of N, and one that is declined leaves all as it was.
-use Prim.Native.Nat.{ℕ, suc, _+_, _-_, _*_, _<_}
-use mathlib.Core.Path.{_≡_, refl, sym, ap, _∙_}
-use mathlib.Core.Bool.{true, false, true≢false}
+use Prim.Native.Nat.{ℕ, suc, _+_, _-_, _<_}
+use mathlib.Core.Path.{_≡_, sym, ap, _∙_}
+use mathlib.Core.Bool.{true, false}
 use mathlib.Core.List.{List}
 use native.Mathlib.Omega.{arith}
 use lib.Dec.{eqb}
@@ -10,16 +10,16 @@ use lib.ListN.{length}
 use borrow.Author.Tests.{lt-ltb, eqb-true, eqb-false}
 use Rattle.protocol.specs.Cases.{by-place}
 use Rattle.protocol.specs.Tables.{put, put-same, put-other, put-at}
-use Rattle.protocol.specs.RoundRobin.{IsLink, Transport, Orderly}
+use Rattle.protocol.specs.RoundRobin.{IsLink, Orderly}
 use Rattle.wire.specs.Message.{message-at}
-use Rattle.replica_model.specs.Layout.{cards, counters, own-card, replica-length, N-of}
+use Rattle.replica_model.specs.Layout.{replica-length}
 use Rattle.replica_model.specs.Calls.{take-on, content}
-use Rattle.replica_model.specs.Terms.{Performed, OnlyMoves}
+use Rattle.replica_model.specs.Terms.{OnlyMoves}
 use Rattle.replica_model.specs.Claims.{take-performs, take-moves, take-exact}
-use Rattle.chassis_model.specs.Parts.{part, put-part}
+use Rattle.chassis_model.specs.Parts.{put-part}
 use Rattle.chassis_model.specs.PartLaws.{part-put, put-part-length, put-part-same}
 use Rattle.chassis_model.specs.Log.{waiting-part}
-use Rattle.chassis_model.specs.Run.{State, Stepped, N-at, replica-of, log-of, delivered}
+use Rattle.chassis_model.specs.Run.{State, N-at, replica-of, log-of, delivered}
 use Rattle.chassis_model.specs.Pending.{state-links, Checked}
 
 module _ (r k L i s : ℕ) (st : State) (is : IsLink r i s) (g : Checked r k L st) (w : 0 < N-at r k L st s s - N-at r k L st i s) where

@@ -14,16 +14,21 @@ use Rattle.protocol.specs.Chassis.{Chassis, fresh-chassis}
 use Rattle.protocol.specs.Theorem.{value-is, holders-are}
 use Rattle.protocol.specs.Arrivals.{Arrivals, kept-arrivals}
 use Rattle.protocol.specs.Agreement.{cards-agree, received-all, same-holds}
-use Rattle.protocol.specs.RoundRobin.{Link, IsLink, Transport, replayed, AllDeliver, Orderly}
+use Rattle.protocol.specs.RoundRobin.{Link, IsLink, replayed, AllDeliver, Orderly}
 use Rattle.protocol.specs.RoundRobinMade.{CallOk, call-ok}
 use Rattle.protocol.specs.RoundRobinEnd.{drained, never-passed}
 use Rattle.protocol.specs.PendingLaws.{N-link, N-elsewhere}
+use Rattle.wire.specs.Message.{message-at}
 use Rattle.replica_model.specs.Calls.{read-on}
 use Rattle.replica_model.specs.RowLaws.{count-cong}
-use Rattle.chassis_model.specs.Run.{Step, State, N-at, replica-of, delivered, cards-right, step-on, state-after, answers-of, deliver-kind}
+use Rattle.chassis_model.specs.Log.{waiting-part}
+use Rattle.chassis_model.specs.LogLaws.{stands-in-log}
+use Rattle.chassis_model.specs.Numbered.{wire-log, wire-log-at, length-numbered}
+use Rattle.chassis_model.specs.Takes.{fields-are}
+use Rattle.chassis_model.specs.Run.{Step, State, N-at, replica-of, log-of, delivered, cards-right, step-on, state-after, answers-of, deliver-kind}
 use Rattle.chassis_model.specs.Ledger.{ledger-reading}
 use Rattle.chassis_model.specs.Answers.{fresh-state}
-use Rattle.chassis_model.specs.InStep.{InStep, reached-N}
+use Rattle.chassis_model.specs.InStep.{InStep, reached-N, made-all}
 use Rattle.chassis_model.specs.Matches.{Sizes, Matches}
 use Rattle.chassis_model.specs.Fresh.{fresh-matches}
 use Rattle.chassis_model.specs.Reads.{read-matches}
@@ -31,7 +36,7 @@ use Rattle.chassis_model.specs.Stepping.{step-of-kind}
 use Rattle.chassis_model.specs.Delivered.{one-delivered, delivered-is-alike}
 use Rattle.chassis_model.specs.Steps.{link-matches}
 use Rattle.chassis_model.specs.Theorem.{run-matches}
-use Rattle.chassis_model.specs.Pending.{state-links, pump, all-waiting, pump-steps}
+use Rattle.chassis_model.specs.Pending.{state-links, pump, all-waiting, pump-steps, Checked}
 
 -- a state that a run, and deliveries behind it, can reach
 record Reached (r k L : ℕ) (st : State) : Type 0 where
@@ -129,6 +134,27 @@ module _ (r k L : ℕ) (st : State) (ch : Chassis) (ls : ℕ → Ledger) (h : In
       )
       (sym (read-matches r k (replica-of r k L st) ch ls h j q hj hq))
 
+-- ---- the checks before a call pass
+
+module _ (r k L : ℕ) (st : State) (g : Reached r k L st) where
+  sender-is : (s n : ℕ) → s < r → n < N-at r k L st s s → message-at (waiting-part (suc n) (log-of r k L st s)) .sender ≡ s
+  sender-is s n hs l =
+      let h = g .matches in
+      let ch = g .chassis in
+      let all = N-is r k L st g s s hs hs ∙ made-all r k (replica-of r k L st) ch (g .ledgers) (h .cards) s in
+      let made : n < length (ch .log s) = omega arith in
+      let on = h .holds s hs in
+      let stands = stands-in-log (wire-log s (ch .log s)) (on .rest) (log-of r k L st s) (on .bytes) (h .cards .alike .readable s hs) n
+      (rw (length-numbered s 0 (ch .log s)) made) in
+      rw (stands .waits, wire-log-at s (ch .log s) n made) (fields-are r k (replica-of r k L st) ch (g .ledgers) (h .cards) s s hs hs n made .1)
+
+  reached-checked : Checked r k L st
+  reached-checked = record {
+    words-fit = g .matches .words-fit;
+    heads = λ i hi. let h = g .matches .cards .alike .heads i hi in (h .cards-are, h .counters-are, h .own-is);
+    senders = sender-is;
+  }
+
 -- ---- a call after a run
 
 module _ (r k L : ℕ) (steps : List Step) (logs : List ℕ) (z : Sizes r k) (fits : length logs ≡ r * L) (b : ℕ) where
@@ -140,6 +166,9 @@ module _ (r k L : ℕ) (steps : List Step) (logs : List ℕ) (z : Sizes r k) (fi
 
   reached : (ss : List Step) → Reached r k L (state-after r k L ss start)
   reached ss = record { chassis = _; ledgers = _; matches = run-matches r k L ss start fresh-chassis (λ q. empty-ledger) (fresh-matches r k L logs z fits) .0 }
+
+  pub run-checked : Checked r k L st
+  run-checked = reached-checked r k L st (reached steps)
 
   call : CallOk (state-links r k L) r (Reached r k L) st (pump r k L b st)
   call = call-ok (state-links r k L) r (Reached r k L) (reached-orderly r k L) b st (reached steps)

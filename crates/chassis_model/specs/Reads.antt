@@ -1,9 +1,7 @@
 -- LAWS. A read on a card in step with the theory is the ledger's reading: the checks pass, the words show the replica, and the theory's theorem says what it reads.
-use Prim.Native.Nat.{ℕ, zero, suc, _<_}
-use mathlib.Core.Path.{_≡_, refl, sym, ap, _∙_}
-use mathlib.Core.Bool.{Bool}
+use Prim.Native.Nat.{ℕ, _<_}
+use mathlib.Core.Path.{_≡_, sym, ap, _∙_}
 use mathlib.Core.List.{List}
-use native.Mathlib.Omega.{arith}
 use borrow.Author.Tests.{lt-ltb}
 use Rattle.protocol.specs.Entry.{present}
 use Rattle.protocol.specs.Ledger.{Ledger, holds}
