@@ -32,6 +32,7 @@ use Rattle.chassis_model.specs.Stepping.{step-of-kind, by-kind}
 use Rattle.chassis_model.specs.Steps.{step-matches}
 use Rattle.chassis_model.specs.AnswerLaws.{step-answer}
 use Rattle.chassis_model.specs.Reads.{read-matches}
+use Rattle.chassis_model.specs.TheoryReads.{same-reading}
 use Rattle.chassis_model.specs.Fresh.{fresh-matches}
 use Rattle.chassis_model.specs.Theorem.{right-sizes, answers-are, words-are}
 use Rattle.chassis_model.specs.Parts.{part}
@@ -177,10 +178,6 @@ pub record OwnRun (r k L q : ℕ) (ss : List Step) (st : State) (own : List Step
   pub accepts : answers-of r k L own st′ ≡ map (λ s. 0) own
   pub reads : (i : ℕ) → i < r → q < k
       → read-on (replica-of r k L (state-after r k L own st′) i) q ≡ read-on (replica-of r k L (state-after r k L ss st) i) q
-
-same-reading : (r i : ℕ) (l l′ : Ledger) → SameSets l l′ → ledger-reading r i l′ ≡ ledger-reading r i l
-unfolding ledger-reading ledger-value ledger-holders holds
-same-reading r i l l′ h = simp (h .received i, h .cancelled i)
 
 module _ (r k L q : ℕ) (s : Step) (ss own : List Step) (st st′ : State) where
   one-more : OwnRun r k L q ss (step-on r k L s st .state) own st′ → OwnRun r k L q (s ∷ ss) st own st′

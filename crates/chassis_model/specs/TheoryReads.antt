@@ -1,9 +1,10 @@
--- LAWS. What the words of a run of the theory (`TheoryRun`) hold and read: Algorithm 1's numbers, and on a caught-up card the number in the plain sense.
+-- LAWS. What the words of a run of the theory (`TheoryRun`) hold and read: Algorithm 1's numbers, and on a caught-up card the number in the plain sense. Two such
+-- runs with the same own steps of a counter read the same of it.
 use Prim.Native.Nat.{ℕ, _<_}
 use mathlib.Core.Path.{_≡_, sym, ap, _∙_}
 use mathlib.Core.Bool.{true}
-use mathlib.Core.List.{List}
-use Rattle.protocol.specs.Ledger.{Step}
+use mathlib.Core.List.{List, map}
+use Rattle.protocol.specs.Ledger.{Step, Ledger, holds, ledger-value, ledger-holders}
 use Rattle.protocol.specs.Chassis.{Offer, read-value}
 use Rattle.protocol.specs.Runs.{after-run}
 use Rattle.protocol.specs.Theorem.{value-is}
@@ -14,10 +15,12 @@ use Rattle.protocol.specs.InARow.{System, initial, Instances, instance, instanc
 use Rattle.protocol.specs.InARowRuns.{after-same}
 use Rattle.protocol.specs.History.{empty-history, recorded, history-after, caught-up, plain-value}
 use Rattle.protocol.specs.CaughtUpLaws.{plain-theorem}
+use Rattle.protocol.specs.Alone.{no-turns, own-steps}
+use Rattle.protocol.specs.AloneLedgers.{SameSets, own-same}
 use Rattle.replica_model.specs.Layout.{C-of, entry-of}
 use Rattle.replica_model.specs.declared.Reading.{Reading}
 use Rattle.replica_model.specs.Calls.{read-on}
-use Rattle.chassis_model.specs.Ledger.{ledger-reading}
+use Rattle.chassis_model.specs.Ledger.{was-accepted, ledger-reading}
 use Rattle.chassis_model.specs.Algorithm1Of.{algorithm-1-of}
 use Rattle.chassis_model.specs.HistoryOf.{history-of}
 use Rattle.chassis_model.specs.Reads.{read-matches}
@@ -61,3 +64,18 @@ module _ (r k : ℕ) (steps : List Step) (numbers : List ℕ) (replicas : ℕ �
   pub caught-up-value : (i q : ℕ) → i < r → q < k → caught-up i (history-of steps numbers) ≡ true
       → read-on (replicas i) q .value ≡ plain-value q i (history-of steps numbers)
   caught-up-value i q hi hq caught = rw history-is (value-read i q hi hq ∙ plain-theorem r q i offers (rw history-is at caught))
+
+-- ---- two such runs with the same own steps of a counter
+
+pub same-reading : (r i : ℕ) (l l′ : Ledger) → SameSets l l′ → ledger-reading r i l′ ≡ ledger-reading r i l
+unfolding ledger-reading ledger-value ledger-holders holds
+same-reading r i l l′ h = simp (h .received i, h .cancelled i)
+
+pub same-own-reads {ℓ ℓ′} : {A : Type ℓ} {B : Type ℓ′} (step : A → Step) (step′ : B → Step) (r k k′ q : ℕ) (xs : List A) (ys : List B) (ns ns′ : List ℕ)
+    (replicas replicas′ : ℕ → List ℕ) → TheoryRun r k (map step xs) ns replicas → TheoryRun r k′ (map step′ ys) ns′ replicas′
+    → map step (own-steps step q xs (map was-accepted ns) no-turns) ≡ map step′ (own-steps step′ q ys (map was-accepted ns′) no-turns)
+    → (i : ℕ) → i < r → q < k → q < k′ → read-on (replicas i) q ≡ read-on (replicas′ i) q
+same-own-reads step step′ r k k′ q xs ys ns ns′ replicas replicas′ t t′ e i hi hq hq′ =
+    reading-is r k _ _ _ t i q hi hq
+    ∙ sym (same-reading r i _ _ (own-same step step′ r q xs ys (map was-accepted ns) (map was-accepted ns′) e))
+    ∙ sym (reading-is r k′ _ _ _ t′ i q hi hq′)

@@ -7,9 +7,10 @@ use mathlib.Core.List.{List, _++_, map}
 use Rattle.protocol.specs.Entry.{present}
 use Rattle.protocol.specs.Ledger.{Step, empty-ledger, kept}
 use Rattle.protocol.specs.Chassis.{Message, fresh-chassis, Offer, answers, read-value, read-holders}
-use Rattle.protocol.specs.Runs.{after-run, all-accepted}
+use Rattle.protocol.specs.Runs.{step-of, after-run, all-accepted}
+use Rattle.protocol.specs.Theorem.{ledger-theorem}
 use Rattle.protocol.specs.Alone.{no-turns, own-steps, alone, accepted-of, messages-of, outline, room}
-use Rattle.protocol.specs.AloneLedgers.{beside-empty, own-kept}
+use Rattle.protocol.specs.AloneLedgers.{beside-empty, own-kept, own-same, same-value, same-holders}
 use Rattle.protocol.specs.AloneTurns.{alone-is-accepted, accepted-append}
 use Rattle.protocol.specs.AloneRuns.{own-run, fresh-beside, same-present, same-read-value, same-read-holders, room-within}
 
@@ -45,6 +46,17 @@ whole-isolation r q os =
       same-read-value r q _ _ _ _ _ (h .ends .beside),
       same-read-holders r q _ _ _ _ _ (h .ends .beside),
     )
+
+-- So two lists with the same own steps of q, whatever else is in them and whatever was answered there, leave every card with the same read of q.
+pub same-own-steps : (r q : ℕ) (os os′ : List Offer) → map step-of (alone r q os) ≡ map step-of (alone r q os′)
+    → (i : ℕ)
+    → (read-value r q (after-run r os .replica i) ≡ read-value r q (after-run r os′ .replica i))
+    × (read-holders r q (after-run r os .replica i) ≡ read-holders r q (after-run r os′ .replica i))
+same-own-steps r q os os′ e i =
+    let same = own-same step-of step-of r q os os′ (answers r os fresh-chassis) (answers r os′ fresh-chassis) e in
+    let a = ledger-theorem r q i os in
+    let b = ledger-theorem r q i os′ in
+    (a .value ∙ sym (same-value _ _ same i) ∙ sym (b .value), a .holders ∙ sym (same-holders _ _ same r i) ∙ sym (b .holders))
 
 -- The same entries are present, so a clear has as many.
 pub present-alone : (r q i j : ℕ) (os : List Offer)

@@ -1,14 +1,14 @@
 -- LAWS. The ledger of q beside the one that is fed q's own steps alone (`Beside`): the same sets at every card, and on every link what is q's of
 -- what the other has there. Every accepted step keeps this, on both if it belongs to q, on the first alone if it does not.
 use Prim.Native.Nat.{ℕ, zero, suc}
-use mathlib.Core.Path.{_≡_, refl, sym, ap, _∙_}
+use mathlib.Core.Path.{_≡_, refl, sym, ap, ap₂, _∙_}
 use mathlib.Core.Bool.{Bool, true, false, cond, false≢true}
-use mathlib.Core.List.{List, [], _∷_, _++_, map, tail, append-nil, append-assoc}
+use mathlib.Core.List.{List, [], _∷_, _++_, map, map-map, tail, append-nil, append-assoc}
 use lib.Dec.{eqb}
 use Rattle.protocol.specs.Cases.{by-place, by-test}
 use Rattle.protocol.specs.Tables.{put, put-same, put-other, put-at, put-same-row, put-other-row}
 use Rattle.protocol.specs.Names.{Name, join}
-use Rattle.protocol.specs.Ledger.{Step, count, clear, deliver, Item, nothing, Ledger, count-item, holds, clear-names, clear-item, next-item, rest-items, some-item, applied, handed, sent, made, entered, fed, kept, ledger-value, empty-ledger}
+use Rattle.protocol.specs.Ledger.{Step, count, clear, deliver, Item, nothing, Ledger, count-item, holds, clear-names, clear-item, next-item, rest-items, some-item, applied, handed, sent, made, entered, fed, kept, ledger-value, empty-ledger, ledger-holders}
 use Rattle.protocol.specs.Alone.{Turns, no-turns, turned, turn-is, belongs, own-steps}
 use Rattle.protocol.specs.Runs.{all-accepted}
 
@@ -110,6 +110,10 @@ module _ (l l′ : Ledger) (h : SameSets l l′) where
   pub same-value : (i : ℕ) → ledger-value i l′ ≡ ledger-value i l
   unfolding ledger-value
   same-value i = rw (h .received i, h .cancelled i)
+
+  pub same-holders : (r i : ℕ) → ledger-holders r i l′ ≡ ledger-holders r i l
+  unfolding ledger-holders holds
+  same-holders r i = simp (h .received i, h .cancelled i)
 
   same-count : (i w : ℕ) → count-item i w l′ ≡ count-item i w l
   unfolding count-item
@@ -250,3 +254,19 @@ own-kept step r q (x ∷ xs) (true ∷ fs) turns l l′ h =
     by-test (belongs q (step x) turns)
     (λ e. rw e (own-kept step r q xs fs (turned (step x) turns) (entered r q (step x) l) (entered r q (step x) l′) (own-entered r q turns l l′ h (step x) e)))
     (λ e. rw e (own-kept step r q xs fs (turned (step x) turns) (entered r q (step x) l) l′ (other-entered r q turns l l′ h (step x) e)))
+
+-- Two ledgers of q that were fed lists with the same own steps of q, whatever else is in them.
+pub own-same {ℓ ℓ′} : {A : Type ℓ} {B : Type ℓ′} (step : A → Step) (step′ : B → Step) (r q : ℕ) (xs : List A) (ys : List B) (fs gs : List Bool)
+    → map step (own-steps step q xs fs no-turns) ≡ map step′ (own-steps step′ q ys gs no-turns)
+    → SameSets (kept r q (map step xs) fs empty-ledger) (kept r q (map step′ ys) gs empty-ledger)
+own-same step step′ r q xs ys fs gs e =
+    let own = own-steps step q xs fs no-turns in
+    let own′ = own-steps step′ q ys gs no-turns in
+    let a = own-kept step r q xs fs no-turns empty-ledger empty-ledger (beside-empty q) in
+    let b = own-kept step′ r q ys gs no-turns empty-ledger empty-ledger (beside-empty q) in
+    let flags : all-accepted own ≡ all-accepted own′ = sym (map-map (λ s. true) step own) ∙ ap all-accepted e ∙ map-map (λ s. true) step′ own′ in
+    let same = ap₂ (λ (ss : List Step) (hs : List Bool). kept r q ss hs empty-ledger) e flags in
+    record {
+      received = λ i. sym (b .received i) ∙ ap (λ (l : Ledger). l .received i) (sym same) ∙ a .received i;
+      cancelled = λ i. sym (b .cancelled i) ∙ ap (λ (l : Ledger). l .cancelled i) (sym same) ∙ a .cancelled i;
+    }
