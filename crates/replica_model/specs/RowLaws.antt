@@ -3,12 +3,12 @@ use Prim.Native.Nat.{ℕ, zero, suc, _≤_, _<_}
 use mathlib.Core.Path.{_≡_, refl}
 use mathlib.Core.Logic.{_↔_}
 use mathlib.Core.List.{List}
-use mathlib.Core.Bool.{Bool, true, false, cond, _&&_, _||_, and-eq-true-iff}
+use mathlib.Core.Bool.{Bool, true, false, cond, _&&_, and-eq-true-iff}
 use native.Mathlib.Omega.{arith}
 use lib.Dec.{leb, eqb}
 use borrow.Author.Tests.{leb-true, eqb-true, le-leb, eq-eqb}
 use Rattle.protocol.specs.Limits.{MAX}
-use Rattle.protocol.specs.Cases.{by-le, by-place, or-left, or-right}
+use Rattle.protocol.specs.Cases.{by-le, by-place, or-cases, or-left, or-right}
 use Rattle.protocol.specs.declared.Entry.{Entry}
 use Rattle.protocol.specs.EntryLaws.{WellFormed}
 use Rattle.replica_model.specs.Layout.{cards, C-of, N-of, entry-of}
@@ -72,10 +72,6 @@ count-below≤ zero f = omega arith
 count-below≤ (suc n) f = omega (arith, count-below≤ n f, flag≤1 (f n))
 
 -- ---- a well-formed row
-
-or-cases {ℓ} : {P : Type ℓ} (s t : Bool) → s || t ≡ true → (s ≡ true → P) → (t ≡ true → P) → P
-or-cases true t h a b = a refl
-or-cases false t h a b = b h
 
 -- the two halves of the test
 abbrev zeros : Entry → Bool
