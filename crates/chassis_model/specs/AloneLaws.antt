@@ -10,10 +10,10 @@ use lib.Dec.{eqb, ltb}
 use borrow.Author.Tests.{ltb-true, lt-ltb, le-ltb, le-leb, lt-leb, eq-eqb, ne-eqb, eqb-true}
 use Rattle.protocol.specs.Limits.{MAX}
 use Rattle.protocol.specs.Cases.{by-le, by-place, by-test, and-left}
-use Rattle.protocol.specs.Ledger.{Ledger, empty-ledger, entered, fed, holds, ledger-value, ledger-holders}
+use Rattle.protocol.specs.Ledger.{Ledger, empty-ledger, entered, fed, holds}
 use Rattle.protocol.specs.Chassis.{Message, increment, clearing, Chassis, fresh-chassis, done, enabled, stepped}
 use Rattle.protocol.specs.Alone.{Turns, no-turns, belongs, own-steps, outline, room}
-use Rattle.protocol.specs.AloneLedgers.{SameSets, same-holds, own-waits}
+use Rattle.protocol.specs.AloneLedgers.{same-holds, own-waits}
 use Rattle.protocol.specs.AloneRuns.{RunsBeside, fresh-beside, own-done, other-done, room-within}
 use Rattle.wire.specs.Message as form
 use Rattle.wire.specs.Message.{message-length, increment-message}
@@ -25,7 +25,7 @@ use Rattle.chassis_model.specs.LogLaws.{log-bytes, free-place}
 use Rattle.chassis_model.specs.Numbered.{numbered, wire-log, length-numbered}
 use Rattle.chassis_model.specs.Run.{Step, State, replica-of, log-of, N-at, free-from, cards-right, step-on, state-after, answers-of, sizes-right, run-on, count-kind, clear-kind, deliver-kind}
 use Rattle.chassis_model.specs.Answers.{fresh-state, message-size, making-answer, due-answer}
-use Rattle.chassis_model.specs.Ledger.{ledger-step, was-accepted, ledger-reading}
+use Rattle.chassis_model.specs.Ledger.{ledger-step, was-accepted}
 use Rattle.chassis_model.specs.InStep.{reached-N, made-all}
 use Rattle.chassis_model.specs.Matches.{Matches}
 use Rattle.chassis_model.specs.Stepping.{step-of-kind, by-kind}

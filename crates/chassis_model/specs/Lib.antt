@@ -9,6 +9,7 @@ pub mod Ledger
 pub mod Answers
 pub mod Driver
 pub mod AloneOf
+pub mod ReadAndClearOf
 pub mod Algorithm1Of
 pub mod Pending
 pub mod HistoryOf
@@ -18,6 +19,7 @@ pub mod Scenarios
 pub mod DriverClaims
 pub mod DriverExamples
 pub mod AloneClaims
+pub mod ReadAndClearClaims
 pub mod Algorithm1Claims
 pub mod PendingClaims
 pub mod CaughtUpClaims
@@ -58,3 +60,4 @@ pub mod DriverSteps
 pub mod DriverResends
 pub mod DriverSame
 pub mod DriverTheorem
+pub mod ReadAndClearLaws

@@ -34,7 +34,7 @@ module _ (r k : ℕ) (steps : List Step) (numbers : List ℕ) (replicas : ℕ �
   pub reading-is : (i q : ℕ) → i < r → q < k → read-on (replicas i) q ≡ ledger-reading r i (ledgers-told r steps numbers q)
   reading-is i q hi hq = read-matches r k replicas _ _ (t .cards) i q hi hq
 
-  value-read : (i q : ℕ) → i < r → q < k → read-on (replicas i) q .value ≡ read-value r q (after-run r offers .replica i)
+  pub value-read : (i q : ℕ) → i < r → q < k → read-on (replicas i) q .value ≡ read-value r q (after-run r offers .replica i)
   unfolding ledger-reading
   value-read i q hi hq =
       ap (λ (a : Reading). a .value) (reading-is i q hi hq) ∙ sym (value-is r q (after-run r offers) (ledgers-told r steps numbers q) (t .cards .oks q) i)
