@@ -18,7 +18,7 @@ use Rattle.protocol.specs.AloneRuns.{RunsBeside, fresh-beside, own-done, other-
 use Rattle.wire.specs.Message as form
 use Rattle.wire.specs.Message.{message-length, increment-message}
 use Rattle.wire.specs.Claims.{message-bytes-length}
-use Rattle.replica_model.specs.Layout.{replica-length}
+use Rattle.replica_model.specs.Layout.{replica-length, N-of}
 use Rattle.replica_model.specs.Calls.{on-wire, read-on}
 use Rattle.replica_model.specs.RowLaws.{count-cong}
 use Rattle.chassis_model.specs.LogLaws.{log-bytes, free-place}
@@ -26,7 +26,7 @@ use Rattle.chassis_model.specs.Numbered.{numbered, wire-log, length-numb
 use Rattle.chassis_model.specs.Run.{Step, State, replica-of, log-of, N-at, free-from, cards-right, step-on, state-after, answers-of, sizes-right, run-on, count-kind, clear-kind, deliver-kind}
 use Rattle.chassis_model.specs.Answers.{fresh-state, message-size, making-answer, due-answer}
 use Rattle.chassis_model.specs.Ledger.{ledger-step, was-accepted}
-use Rattle.chassis_model.specs.InStep.{reached-N, made-all}
+use Rattle.chassis_model.specs.InStep.{InStep, reached-N, made-all}
 use Rattle.chassis_model.specs.Matches.{Matches}
 use Rattle.chassis_model.specs.Stepping.{step-of-kind, by-kind}
 use Rattle.chassis_model.specs.Steps.{step-matches}
@@ -75,7 +75,7 @@ unfolding room
 room-ones [] = refl
 room-ones (m ∷ ms) = let e = room-ones ms in omega arith
 
-some-number : (n : ℕ) → suc n ≡ 0 → ⊥
+pub some-number : (n : ℕ) → suc n ≡ 0 → ⊥
 some-number n e = omega arith
 
 -- a check that did not refuse
@@ -99,30 +99,39 @@ making-fits k L q made used size made′ used′ size′ few a b c e =
     (λ l. absurd (some-number 13 (rw (lt-ltb q k hq, ne-eqb made MAX f, lt-leb (used + size) L l) at e)))))))
     (λ l. absurd (some-number 2 (rw (le-ltb q k (omega arith)) at e)))
 
+-- ---- alone, a message is as long, and each card has made no more
+
+pub same-size : (r q : ℕ) (turns : Turns) (ch : Chassis) (l : Ledger) (ch′ : Chassis) (l′ : Ledger) → RunsBeside r q turns ch l ch′ l′
+    → (counts : Bool) (i : ℕ) → message-size r counts i l′ ≡ message-size r counts i l
+same-size r q turns ch l ch′ l′ b true i = refl
+same-size r q turns ch l ch′ l′ b false i = ap (λ (n : ℕ). 28 + 20 * n) (count-cong r _ _ (λ j below. same-holds l l′ (b .ledgers .sets) i j))
+
+pub fewer-made : (r k q : ℕ) (turns : Turns) (replicas : ℕ → List ℕ) (ch : Chassis) (ls : ℕ → Ledger) (h : InStep r k replicas ch ls)
+    (replicas′ : ℕ → List ℕ) (ch′ : Chassis) (ls′ : ℕ → Ledger) (h′ : InStep r k replicas′ ch′ ls′) → RunsBeside r q turns ch (ls q) ch′ (ls′ q)
+    → (i : ℕ) → i < r → N-of r (replicas′ i) i ≤ N-of r (replicas i) i
+fewer-made r k q turns replicas ch ls h replicas′ ch′ ls′ h′ b i hi =
+    let w = room-within (λ m. 1) (λ m. refl) q (ch .log i) (ch′ .log i) (b .logs i) in
+    let x = room-ones (ch .log i) in
+    let y = room-ones (ch′ .log i) in
+    let n = reached-N r k replicas ch ls h i i hi hi ∙ made-all r k replicas ch ls h i in
+    let n′ = reached-N r k replicas′ ch′ ls′ h′ i i hi hi ∙ made-all r k replicas′ ch′ ls′ h′ i in
+    omega arith
+
 -- ---- a step of q that the first run accepts
 
 module _ (r k L q : ℕ) (turns : Turns) (st : State) (ch : Chassis) (ls : ℕ → Ledger) (h : Matches r k L st ch ls)
     (st′ : State) (ch′ : Chassis) (ls′ : ℕ → Ledger) (h′ : Matches r k L st′ ch′ ls′) (b : RunsBeside r q turns ch (ls q) ch′ (ls′ q)) where
-  same-size : (counts : Bool) (i : ℕ) → message-size r counts i (ls′ q) ≡ message-size r counts i (ls q)
-  same-size true i = refl
-  same-size false i = ap (λ (n : ℕ). 28 + 20 * n) (count-cong r _ _ (λ j below. same-holds (ls q) (ls′ q) (b .ledgers .sets) i j))
-
-  -- less room is used, and less was made
+  -- less room is used
   less-used : (i : ℕ) → i < r → free-from r k L st′ i ≤ free-from r k L st i
   less-used i hi =
       rw (used-is r k L st ch ls h i hi, used-is r k L st′ ch′ ls′ h′ i hi)
       (room-within wire-size size-of-outline q (ch .log i) (ch′ .log i) (b .logs i))
 
-  less-made : (i : ℕ) → i < r → N-at r k L st′ i i ≤ N-at r k L st i i
-  less-made i hi =
-      rw (own-made r k L st ch ls h i hi, own-made r k L st′ ch′ ls′ h′ i hi)
-      (let w = room-within (λ m. 1) (λ m. refl) q (ch .log i) (ch′ .log i) (b .logs i) in
-      let x = room-ones (ch .log i) in let y = room-ones (ch′ .log i) in omega arith)
-
   makes-too : (counts : Bool) (i : ℕ) → i < r → making-answer k L q (N-at r k L st i i) (free-from r k L st i) (message-size r counts i (ls q)) ≡ 0
       → making-answer k L q (N-at r k L st′ i i) (free-from r k L st′ i) (message-size r counts i (ls′ q)) ≡ 0
   makes-too counts i hi e =
-      making-fits k L q _ _ _ _ _ _ (rw (reached-N r k (replica-of r k L st) ch ls (h .cards) i i hi hi) (h .cards .alike .few i hi)) (less-made i hi) (less-used i hi) (same-size counts i) e
+      making-fits k L q _ _ _ _ _ _ (rw (reached-N r k (replica-of r k L st) ch ls (h .cards) i i hi hi) (h .cards .alike .few i hi)) (fewer-made r k q turns (replica-of r k L st) ch ls (h .cards) (replica-of r k L st′) ch′ ls′ (h′ .cards) b i hi) (less-used i hi)
+      (same-size r q turns ch (ls q) ch′ (ls′ q) b counts i) e
 
   abbrev AcceptedToo : Step → Type 0
   AcceptedToo s = due-answer r k L q s st ls ≡ 0 → belongs q (ledger-step s) turns ≡ true → due-answer r k L q s st′ ls′ ≡ 0

@@ -60,4 +60,5 @@ pub mod DriverSteps
 pub mod DriverResends
 pub mod DriverSame
 pub mod DriverTheorem
+pub mod DriverAlone
 pub mod ReadAndClearLaws
