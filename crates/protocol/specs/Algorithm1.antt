@@ -128,6 +128,13 @@ reset-each (t ∷ R) C M = reset-each R C (reset-one (t .card) (t .p) (t .c) C M
 unfoldable pub reset-effector : List ClearEntry → State → State
 reset-effector R st = record { C = st .C; M = reset-each R (st .C) (st .M) }
 
+-- ---- either of the two
+
+-- an update's effector (lines 17 and 30)
+unfoldable pub effector : Update → State → State
+effector (inc j p start) st = inc-effector j p start st
+effector (reset R) st = reset-effector R st
+
 -- ---- document 01's replica and messages, read as the paper's
 
 -- "An absent entry is (0,0,0)": absent is unmapped.

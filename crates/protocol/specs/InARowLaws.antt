@@ -14,9 +14,9 @@ use Rattle.protocol.specs.Marks.{Mark, Proper, Before, Follows, after-in
 use Rattle.protocol.specs.EntryLaws.{EntryOk, even, ahead, behind, Placed, cancelled-by-increment, incremented-ok, count-follows, entry-well-formed, later-first, later-second}
 use Rattle.protocol.specs.Rows.{WellFormed}
 use Rattle.protocol.specs.Chassis.{Message, increment, clearing, Replica, taken, units-of}
-use Rattle.protocol.specs.Algorithm1.{Slot, State, Update, inc, inc-generator, inc-effector, slot-of, state-of}
+use Rattle.protocol.specs.Algorithm1.{Slot, State, Update, inc, inc-generator, inc-effector, effector, slot-of, state-of}
 use Rattle.protocol.specs.Algorithm1Laws.{inc-effector-agrees, inc-effector-C}
-use Rattle.protocol.specs.InARow.{effector, effectors, inc-generators, singles}
+use Rattle.protocol.specs.InARow.{effectors, inc-generators, singles}
 
 -- ---- one entry
 

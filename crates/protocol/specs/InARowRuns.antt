@@ -29,9 +29,9 @@ use Rattle.protocol.specs.Links.{own-N-is}
 use Rattle.protocol.specs.Refusals.{received-within}
 use Rattle.protocol.specs.Runs.{step-of, after-run, ledger-after}
 use Rattle.protocol.specs.EntryLaws.{Placed}
-use Rattle.protocol.specs.Algorithm1.{Slot, State, Update, reset-generator, slot-of, state-of, SomeUnits}
+use Rattle.protocol.specs.Algorithm1.{Slot, State, Update, reset-generator, effector, slot-of, state-of, SomeUnits}
 use Rattle.protocol.specs.Algorithm1Laws.{reset-message-agrees, reset-effector-agrees, reset-effector-C}
-use Rattle.protocol.specs.InARow.{effector, effectors, inc-generators, Instances, instance, Lot, effected, System, initial, made, next-lot, rest-lots, handed, entered, fed, kept, algorithm-1-after, instances-of, singles, updates-of}
+use Rattle.protocol.specs.InARow.{effectors, inc-generators, Instances, instance, Lot, effected, System, initial, made, next-lot, rest-lots, handed, entered, fed, kept, algorithm-1-after, instances-of, singles, updates-of}
 use Rattle.protocol.specs.InARowLaws.{state-is, EntriesWellFormed, Against, against-well-formed, effectors-are, generators-are}
 use Rattle.protocol.specs.Enabled.{count-enabled, deliver-enabled}
 
