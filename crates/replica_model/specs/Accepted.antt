@@ -64,7 +64,7 @@ sending-from b q h l w d =
     let k = row-facts b q w in
     record { right = r; counter = l; row = k; more = let n = k .N≤MAX (own-card b) (r .own) in omega arith }
 
-sending-facts : (b : List ℕ) (q : ℕ) (out : List ℕ) (size : ℕ) → Gives (send-checks b q out size) 0 → Sending b q
+pub sending-facts : (b : List ℕ) (q : ℕ) (out : List ℕ) (size : ℕ) → Gives (send-checks b q out size) 0 → Sending b q
 sending-facts b q out size (h₁, (h₃, (h₂, (h₄, _)))) = sending-from b q h₁ (ltb-true q (counters b) h₃) h₂ (eqb-false _ MAX (not-true _ h₄))
 
 -- ---- the calls

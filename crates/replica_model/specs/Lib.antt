@@ -15,3 +15,8 @@ pub mod Receivers
 pub mod Accepted
 pub mod Order
 pub mod Claims
+-- The calls beside the paper's Algorithm 1.
+pub mod Paper
+pub mod PaperLaws
+pub mod PaperClaims
+pub mod PaperExamples

@@ -1,0 +1,53 @@
+-- CLAIMS. Each accepted call performs Algorithm 1 of the 2022 paper, in the paper's own form (`protocol`'s `Algorithm1`, line by line), from every replica on which the call is
+-- accepted, whether a run reaches it or not. `instance-of b q` is counter q of the words b as the paper's instance, `update-of` a message as the paper's update (`Paper`).
+use Prim.Native.Nat.{ℕ, _+_, _*_}
+use mathlib.Core.Path.{_≡_, sym}
+use mathlib.Core.List.{List}
+use lib.ListN.{take}
+use Rattle.protocol.specs.Algorithm1.{value, inc-generator, reset-generator}
+use Rattle.protocol.specs.Claims.{algorithm-1-value, algorithm-1-count, algorithm-1-clear}
+use Rattle.wire.specs.Message.{message-at}
+use Rattle.replica_model.specs.Layout.{cards, own-card, N-of}
+use Rattle.replica_model.specs.Calls.{state, reading, read-on, count-on, clear-on, take-on}
+use Rattle.replica_model.specs.Terms.{holders, count-of, clear-of}
+use Rattle.replica_model.specs.Exact.{read-decided, count-decided, clear-decided, take-decided}
+use Rattle.replica_model.specs.Senders.{count-writable, clear-writable}
+use Rattle.replica_model.specs.Receivers.{taking-facts}
+use Rattle.replica_model.specs.Accepted.{sending-facts, count-move, clear-move, take-move}
+use Rattle.replica_model.specs.Paper.{instance-of, update-of, PaperStep, Says}
+use Rattle.replica_model.specs.PaperLaws.{inc-made, reset-made, content-is, move-performs, sends}
+
+-- Lines 9-10: an answered read gives the paper's value of the counter's instance.
+pub read-is-algorithm-1 : (b : List ℕ) (q : ℕ) → read-on b q .number ≡ 0 → read-on b q .value ≡ value (cards b) (instance-of b q)
+unfolding reading
+read-is-algorithm-1 b q h = rw (read-decided b q .accepted h) (sym (algorithm-1-value (cards b) q (state b)))
+
+-- Lines 11-26: an accepted count writes what the generator of inc returns, as the own card's message number N + 1, and performs its effector.
+pub count-is-algorithm-1 : (b : List ℕ) (q : ℕ) (out : List ℕ) → count-on b q out .answer .number ≡ 0
+    → let u = inc-generator (own-card b) (instance-of b q) in
+    let done = count-on b q out in
+    Says (take (done .answer .length) (done .out)) (own-card b) (N-of (cards b) b (own-card b) + 1) q u × PaperStep b q u (done .words)
+count-is-algorithm-1 b q out h =
+    let d = count-decided b q out in
+    let k = sending-facts b q out 36 (d .exact 0 .0 h) in
+    sends b out q _ (count-of b q) 36 _ (algorithm-1-count (own-card b) q (state b)) (inc-made b q) (k .row) (count-writable b q k) (d .accepted h) (count-move b q out h)
+
+-- Lines 27-38: an accepted clear writes what the generator of reset returns, as the own card's message number N + 1, and performs its effector.
+pub clear-is-algorithm-1 : (b : List ℕ) (q : ℕ) (out : List ℕ) → clear-on b q out .answer .number ≡ 0
+    → let u = reset-generator (cards b) (instance-of b q) in
+    let done = clear-on b q out in
+    Says (take (done .answer .length) (done .out)) (own-card b) (N-of (cards b) b (own-card b) + 1) q u × PaperStep b q u (done .words)
+clear-is-algorithm-1 b q out h =
+    let d = clear-decided b q out in
+    let size = 28 + 20 * holders b q in
+    let k = sending-facts b q out size (d .exact 0 .0 h) in
+    sends b out q _ (clear-of b q) size _ (algorithm-1-clear (cards b) q (state b)) (reset-made b q) (k .row) (clear-writable b q k) (d .accepted h) (clear-move b q out h)
+
+-- Lines 17-26 and 30-38: an accepted take performs the effector of the update that the bytes say, on the counter that they name.
+pub take-is-algorithm-1 : (b bytes : List ℕ) → take-on b bytes .answer .number ≡ 0
+    → let m = message-at bytes in PaperStep b (m .counter) (update-of m) (take-on b bytes .words)
+take-is-algorithm-1 b bytes h =
+    let m = message-at bytes in
+    let says = content-is m in
+    let k = taking-facts b bytes (take-decided b bytes .exact 0 .0 h) in
+    move-performs b (m .counter) (m .sender) (update-of m) _ (k .row) (says .1) (rw (← (says .0)) (take-move b bytes h))
