@@ -10,11 +10,11 @@ use borrow.Author.Tests.{eq-eqb, ne-eqb}
 use Rattle.protocol.specs.Limits.{wrong-sizes}
 use Rattle.replica_model.specs.Layout.{replica-length}
 use Rattle.chassis_model.specs.Run.{RunOutcome, sizes-right, fresh-replicas, run-on, steps-of, run-bytes-on}
+use Rattle.chassis_model.specs.RunLaws.{steps-length}
 use Rattle.chassis_model.specs.Places.{fresh-reached}
 use Rattle.chassis.specs.declared.Sizes.{Sizes}
 use Rattle.chassis.specs.Begin.{lengths-right, sizes-by-length, right-lengths}
 use Rattle.chassis.specs.Turns.{Given, Ended}
-use Rattle.chassis.specs.Running.{steps-length}
 
 abbrev pub sizes-of : ℕ → ℕ → ℕ → ℕ → Sizes
 sizes-of r k L size = record { cards = r; counters = k; capacity = L; replica = size }

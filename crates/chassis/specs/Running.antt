@@ -1,6 +1,6 @@
 -- LAWS. A run in the middle: what the steps that are left make of the present state is what all steps make of the first one, and the answers so far
 -- are the first answers of all. Both forms of steps, bytes and records, keep this.
-use Prim.Native.Nat.{ℕ, zero, suc, _+_, _-_, _*_, _/_, _≤_, _<_}
+use Prim.Native.Nat.{ℕ, suc, _+_, _-_, _*_, _/_, _≤_, _<_}
 use mathlib.Core.Path.{_≡_, refl, sym, ap, _∙_}
 use mathlib.Core.List.{List, [], _∷_, _++_, append-assoc, append-nil}
 use native.Mathlib.Nat.{mul-div-cancel-left}
@@ -10,6 +10,7 @@ use lib.ListN.{length, set, take, length-set}
 use lib.Seq.{take-suc-set, take-all}
 use Rattle.chassis_model.specs.declared.Step.{Step}
 use Rattle.chassis_model.specs.Run.{State, step-on, state-after, answers-of, step-at, steps-at, steps-of}
+use Rattle.chassis_model.specs.RunLaws.{steps-length}
 
 -- `rest` is left of `steps`, which began at `first`; i of them are done
 pub record Running (r k L : ℕ) (steps : List Step) (first : State) (rest : List Step) (st : State) (i : ℕ) (answers : List ℕ) : Type 0 where
@@ -41,11 +42,6 @@ module _ (r k L : ℕ) (steps : List Step) (first : State) where
       (sym (h .ends), sym (h .answered) ∙ append-nil (take i answers) ∙ take-all i answers (omega arith))
 
 -- ---- steps as bytes
-
-pub steps-length : (n : ℕ) (bytes : List ℕ) (at : ℕ) → length (steps-at n bytes at) ≡ n
-unfolding steps-at
-steps-length zero bytes at = refl
-steps-length (suc n) bytes at = ap suc (steps-length n bytes (at + 12))
 
 -- what is left of n steps once i are done
 abbrev pub left : List ℕ → ℕ → ℕ → List Step

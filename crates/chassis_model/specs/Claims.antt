@@ -8,12 +8,14 @@ use mathlib.Core.Bool.{true}
 use mathlib.Core.List.{List, _∷_, _++_, map}
 use lib.ListN.{length, getD}
 use Rattle.protocol.specs.Runs.{AllAlike}
+use Rattle.wire.specs.NumberLaws.{Bytes}
 use Rattle.replica_model.specs.Layout.{replica-length}
 use Rattle.replica_model.specs.Calls.{read-on}
 use Rattle.chassis_model.specs.Parts.{part}
-use Rattle.chassis_model.specs.Run.{Step, state-after, answers-of, sizes-right, run-on, steps-of, run-bytes-on}
+use Rattle.chassis_model.specs.Run.{Step, state-after, answers-of, sizes-right, run-on, steps-bytes, AllFit, steps-of, run-bytes-on}
 use Rattle.chassis_model.specs.Ledger.{ledger-step, ledger-of, ledger-reading}
 use Rattle.chassis_model.specs.Answers.{fresh-state, due-answer, run-answer}
+use Rattle.chassis_model.specs.StepBytesLaws as step-bytes-laws
 use Rattle.chassis_model.specs.Theorem as theorem
 
 -- DEMAND 3. After any list of steps, a read of any counter on any card is accepted and gives the value, the holding cards and their number of that counter's
@@ -50,7 +52,12 @@ pub isolation : (r k L L′ q : ℕ) (steps steps′ : List Step) (words words�
     ≡ read-on (part (replica-length r k) (run-on r k L′ steps′ words′ logs′ answers′ .words) i) q
 isolation = theorem.isolation
 
--- BOTH FORMS OF STEPS. Steps lent as bytes, three unsigned ints each, and the same steps lent as records give the same run: its number, words, logs and answers.
-pub same-run : (r k L : ℕ) (bytes words logs answers : List ℕ) → length bytes % 12 ≡ 0
-    → run-bytes-on r k L bytes words logs answers ≡ run-on r k L (steps-of bytes) words logs answers
-same-run = theorem.same-run
+-- BOTH FORMS OF STEPS. A list of steps lent as bytes, three unsigned ints each, and the same list lent as records give the same run: its number, words, logs and
+-- answers.
+pub same-run : (r k L : ℕ) (steps : List Step) (words logs answers : List ℕ) → AllFit steps
+    → run-bytes-on r k L (steps-bytes steps) words logs answers ≡ run-on r k L steps words logs answers
+same-run = step-bytes-laws.same-run
+
+-- So two forms of one list: any bytes whose number is a multiple of 12 are the bytes of a list of steps, the one that a run over them runs.
+pub steps-of-bytes : (bytes : List ℕ) → Bytes bytes → length bytes % 12 ≡ 0 → AllFit (steps-of bytes) × (steps-bytes (steps-of bytes) ≡ bytes)
+steps-of-bytes = step-bytes-laws.steps-of-bytes

@@ -44,6 +44,9 @@ pub mod Stepping
 pub mod Made
 pub mod Delivered
 pub mod Steps
+-- Which runs are accepted; steps as bytes and as records.
+pub mod RunLaws
+pub mod StepBytesLaws
 -- What follows: answers, the theorem; and for the code, the places of the links.
 pub mod AnswerLaws
 pub mod Theorem

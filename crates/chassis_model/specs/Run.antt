@@ -1,11 +1,11 @@
 -- DEFINITIONS. A run of steps over r replicas and r logs (document 01, "Chassis"): the answer of every step, and the words and log bytes it leaves.
-use Prim.Native.Nat.{ℕ, zero, suc, _+_, _*_, _/_, _%_}
+use Prim.Native.Nat.{ℕ, zero, suc, _+_, _*_, _/_, _%_, _^_, _<_}
 use mathlib.Core.List.{List, [], _∷_, _++_}
 use mathlib.Core.Bool.{Bool, not, cond, _&&_, _||_}
 use lib.ListN.{length, take, drop}
 use lib.Dec.{ltb, eqb}
 use Rattle.protocol.specs.Limits.{output-too-short, no-such-card, wrong-sizes, no-such-step, none-waiting, log-too-short}
-use Rattle.wire.specs.Number.{int-at}
+use Rattle.wire.specs.Number.{int-at, unsigned-int}
 use Rattle.replica_model.specs.Layout.{replica-length, N-of, fresh-words}
 use Rattle.replica_model.specs.Calls.{check, sizes-in-range, SendOutcome, count-on, clear-on, take-on}
 use Rattle.chassis_model.specs.Parts.{part, put-part}
@@ -120,7 +120,24 @@ run-on r k L steps words logs answers =
       answers = answers-of r k L steps fresh;
     })
 
--- ---- steps as bytes: "three unsigned ints each"
+-- ---- steps as bytes: "as bytes, three unsigned ints each"
+
+unfoldable pub step-bytes : Step → List ℕ
+step-bytes s = unsigned-int (s .kind) ++ unsigned-int (s .first) ++ unsigned-int (s .second)
+
+unfoldable pub steps-bytes : List Step → List ℕ
+steps-bytes [] = []
+steps-bytes (s ∷ ss) = step-bytes s ++ steps-bytes ss
+
+-- "Steps of three 32-bit numbers"
+pub record StepFits (s : Step) : Type 0 where
+  pub kind : s .kind < 2 ^ 32
+  pub first : s .first < 2 ^ 32
+  pub second : s .second < 2 ^ 32
+
+abbrev pub AllFit : List Step → Type 0
+AllFit [] = Unit {0}
+AllFit (s ∷ ss) = StepFits s × AllFit ss
 
 abbrev pub step-at : List ℕ → ℕ → Step
 step-at bytes at = record { kind = int-at bytes at; first = int-at bytes (at + 4); second = int-at bytes (at + 8) }

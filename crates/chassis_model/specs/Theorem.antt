@@ -1,10 +1,9 @@
 -- LAWS. A run beside the ledgers: by induction over the steps every state is reached, so reads are the ledger's readings and answers are those due.
-use Prim.Native.Nat.{ℕ, _*_, _%_, _<_}
+use Prim.Native.Nat.{ℕ, _*_, _<_}
 use mathlib.Core.Path.{_≡_, refl, sym, ap, ap₂, _∙_}
 use mathlib.Core.Bool.{Bool, true}
 use mathlib.Core.List.{List, [], _∷_, _++_, map}
 use lib.ListN.{length, getD}
-use borrow.Author.Tests.{eq-eqb}
 use Rattle.protocol.specs.Ledger as ledger
 use Rattle.protocol.specs.Ledger.{Ledger, empty-ledger, kept}
 use Rattle.protocol.specs.Chassis as protocol
@@ -16,7 +15,7 @@ use Rattle.replica_model.specs.Calls.{read-on}
 use Rattle.replica_model.specs.RowLaws.{sizes}
 use Rattle.replica_model.specs.RowLaws.{tests}
 use Rattle.chassis_model.specs.Parts.{part}
-use Rattle.chassis_model.specs.Run.{Step, State, step-on, state-after, answers-of, sizes-right, run-on, steps-of, run-bytes-on}
+use Rattle.chassis_model.specs.Run.{Step, State, step-on, state-after, answers-of, sizes-right, run-on}
 use Rattle.chassis_model.specs.Ledger.{ledger-step, was-accepted, ledger-of, ledger-reading}
 use Rattle.chassis_model.specs.Answers.{fresh-state, due-answer, run-answer}
 use Rattle.chassis_model.specs.Matches.{Sizes, Matches}
@@ -109,9 +108,3 @@ isolation r k L L′ q steps steps′ words words′ logs logs′ answers answer
     ledger-theorem r k L steps words logs answers right i q hi hq
     ∙ rw (same, alike-kept r q (map ledger-step steps) (map ledger-step steps′) (map was-accepted (run-on r k L′ steps′ words′ logs′ answers′ .answers)) empty-ledger alike)
     (sym (ledger-theorem r k L′ steps′ words′ logs′ answers′ right′ i q hi hq))
-
--- steps as bytes and as records
-pub same-run : (r k L : ℕ) (bytes words logs answers : List ℕ) → length bytes % 12 ≡ 0
-    → run-bytes-on r k L bytes words logs answers ≡ run-on r k L (steps-of bytes) words logs answers
-unfolding run-bytes-on
-same-run r k L bytes words logs answers whole = rw (eq-eqb (length bytes % 12) 0 whole)
