@@ -2,11 +2,13 @@
 --
 -- r cards, k counters, logs of L bytes, any list of steps, any words, log bytes and answers of the right sizes. `fresh-state r k L logs` is the state in which
 -- the run begins, `state-after` the one that a list of steps leaves, `ledger-of r q steps answers` counter q's ledger, fed the steps and which were accepted.
-use Prim.Native.Nat.{ℕ, _%_, _<_}
+use Prim.Native.Nat.{ℕ, _/_, _%_, _<_}
 use mathlib.Core.Path.{_≡_}
+use mathlib.Core.Logic.{_↔_}
 use mathlib.Core.Bool.{true}
 use mathlib.Core.List.{List, _∷_, _++_, map}
 use lib.ListN.{length, getD}
+use Rattle.protocol.specs.Limits.{wrong-sizes}
 use Rattle.protocol.specs.Runs.{AllAlike}
 use Rattle.wire.specs.NumberLaws.{Bytes}
 use Rattle.replica_model.specs.Layout.{replica-length}
@@ -15,6 +17,7 @@ use Rattle.chassis_model.specs.Parts.{part}
 use Rattle.chassis_model.specs.Run.{Step, state-after, answers-of, sizes-right, run-on, steps-bytes, AllFit, steps-of, run-bytes-on}
 use Rattle.chassis_model.specs.Ledger.{ledger-step, ledger-of, ledger-reading}
 use Rattle.chassis_model.specs.Answers.{fresh-state, due-answer, run-answer}
+use Rattle.chassis_model.specs.RunLaws as run-laws
 use Rattle.chassis_model.specs.StepBytesLaws as step-bytes-laws
 use Rattle.chassis_model.specs.Theorem as theorem
 
@@ -25,6 +28,34 @@ pub ledger-theorem : (r k L : ℕ) (steps : List Step) (words logs answers : Lis
     → let after = run-on r k L steps words logs answers in
     read-on (part (replica-length r k) (after .words) i) q ≡ ledger-reading r i (ledger-of r q steps (after .answers))
 ledger-theorem = theorem.ledger-theorem
+
+-- The same of a run over records that answered 0, as the call `yelansub_run_records` gives it.
+pub ledger-theorem-over-records : (r k L : ℕ) (steps : List Step) (words logs answers : List ℕ)
+    → let after = run-on r k L steps words logs answers in
+    after .number ≡ 0 → (i q : ℕ) → i < r → q < k
+    → read-on (part (replica-length r k) (after .words) i) q ≡ ledger-reading r i (ledger-of r q steps (after .answers))
+ledger-theorem-over-records = theorem.ledger-theorem-over-records
+
+-- And of a run over bytes that answered 0, as the call `yelansub_run` gives it.
+pub ledger-theorem-over-bytes : (r k L : ℕ) (bytes words logs answers : List ℕ)
+    → let after = run-bytes-on r k L bytes words logs answers in
+    after .number ≡ 0 → (i q : ℕ) → i < r → q < k
+    → read-on (part (replica-length r k) (after .words) i) q ≡ ledger-reading r i (ledger-of r q (steps-of bytes) (after .answers))
+ledger-theorem-over-bytes = theorem.ledger-theorem-over-bytes
+
+-- ACCEPTED SIZES. A run over records answers 0 exactly when its sizes are right. Otherwise it answers 11, and words, logs and answers are as they were.
+pub accepted-sizes : (r k L : ℕ) (steps : List Step) (words logs answers : List ℕ)
+    → let after = run-on r k L steps words logs answers in
+    ((after .number ≡ 0) ↔ (sizes-right r k L (length steps) words logs answers ≡ true))
+    × ((after .number ≡ 0 → ⊥) → after ≡ record { number = wrong-sizes; words = words; logs = logs; answers = answers })
+accepted-sizes = run-laws.accepted-sizes
+
+-- A run over bytes answers 0 exactly when, besides, the bytes are a multiple of 12. Otherwise it answers 11, and words, logs and answers are as they were.
+pub accepted-sizes-over-bytes : (r k L : ℕ) (bytes words logs answers : List ℕ)
+    → let after = run-bytes-on r k L bytes words logs answers in
+    ((after .number ≡ 0) ↔ ((length bytes % 12 ≡ 0) × (sizes-right r k L (length bytes / 12) words logs answers ≡ true)))
+    × ((after .number ≡ 0 → ⊥) → after ≡ record { number = wrong-sizes; words = words; logs = logs; answers = answers })
+accepted-sizes-over-bytes = run-laws.accepted-sizes-over-bytes
 
 -- EXACT ANSWERS. The answer of the step behind any first steps is the one that is due after them (`due-answer`): 12, 7, 3, 4, 14 and 13 exactly for their causes, and 0
 -- otherwise. So a deliver step between two cards is accepted exactly when the ledger's link, of whichever counter's ledger, has something to hand over.

@@ -15,7 +15,7 @@ use Rattle.replica_model.specs.Calls.{read-on}
 use Rattle.replica_model.specs.RowLaws.{sizes}
 use Rattle.replica_model.specs.RowLaws.{tests}
 use Rattle.chassis_model.specs.Parts.{part}
-use Rattle.chassis_model.specs.Run.{Step, State, step-on, state-after, answers-of, sizes-right, run-on}
+use Rattle.chassis_model.specs.Run.{Step, State, step-on, state-after, answers-of, sizes-right, run-on, steps-of, run-bytes-on}
 use Rattle.chassis_model.specs.Ledger.{ledger-step, was-accepted, ledger-of, ledger-reading}
 use Rattle.chassis_model.specs.Answers.{fresh-state, due-answer, run-answer}
 use Rattle.chassis_model.specs.Matches.{Sizes, Matches}
@@ -23,6 +23,7 @@ use Rattle.chassis_model.specs.Fresh.{fresh-matches}
 use Rattle.chassis_model.specs.Steps.{step-matches}
 use Rattle.chassis_model.specs.Offers.{offers-of, TheoryRun}
 use Rattle.chassis_model.specs.TheoryReads.{reading-is}
+use Rattle.chassis_model.specs.RunLaws.{accepted-sizes, whole-steps, accepted-sizes-over-bytes}
 use Rattle.chassis_model.specs.AnswerLaws.{step-answer, answer-at, due-is-answer}
 
 -- the ledgers after a list of steps
@@ -77,6 +78,21 @@ pub ledger-theorem : (r k L : ℕ) (steps : List Step) (words logs answers : Lis
     ≡ ledger-reading r i (ledger-of r q steps (run-on r k L steps words logs answers .answers))
 unfolding ledger-of
 ledger-theorem r k L steps words logs answers right = reading-is r k _ _ _ (theory-run r k L steps words logs answers right)
+
+pub ledger-theorem-over-records : (r k L : ℕ) (steps : List Step) (words logs answers : List ℕ)
+    → let after = run-on r k L steps words logs answers in
+    after .number ≡ 0 → (i q : ℕ) → i < r → q < k
+    → read-on (part (replica-length r k) (after .words) i) q ≡ ledger-reading r i (ledger-of r q steps (after .answers))
+ledger-theorem-over-records r k L steps words logs answers accepted =
+    ledger-theorem r k L steps words logs answers (accepted-sizes r k L steps words logs answers .0 .0 accepted)
+
+pub ledger-theorem-over-bytes : (r k L : ℕ) (bytes words logs answers : List ℕ)
+    → let after = run-bytes-on r k L bytes words logs answers in
+    after .number ≡ 0 → (i q : ℕ) → i < r → q < k
+    → read-on (part (replica-length r k) (after .words) i) q ≡ ledger-reading r i (ledger-of r q (steps-of bytes) (after .answers))
+ledger-theorem-over-bytes r k L bytes words logs answers accepted =
+    let same = whole-steps r k L bytes words logs answers (accepted-sizes-over-bytes r k L bytes words logs answers .0 .0 accepted .0) in
+    rw same (ledger-theorem-over-records r k L (steps-of bytes) words logs answers (rw same at accepted))
 
 -- ---- answers
 
