@@ -1,4 +1,5 @@
--- CLAIMS. Document 01's starred orders ("Orders from the bench") as one list under one theorem, computed on the run's definition.
+-- CLAIMS. Document 01's starred orders ("Orders from the bench") as one list under one theorem, computed on the run's definition. Every figure of an order is
+-- looked for in one run of its steps, and was worked out by hand from the document's rules.
 use Prim.Native.Nat.{ℕ, _+_, _*_}
 use mathlib.Core.Path.{_≡_, refl}
 use mathlib.Core.List.{List, [], _∷_, _++_}
@@ -15,25 +16,33 @@ use Rattle.protocol.specs.Stores.{cleared-words, taken-words, shown}
 use Rattle.wire.specs.Number.{number-at, bytes-of}
 use Rattle.wire.specs.Message as form
 use Rattle.wire.specs.Message.{header-bytes, increment-bytes, entry-bytes, entries-bytes, clear-bytes, message-bytes, header-in-range, increment-in-range, clear-in-range, entry-in-range, entries-in-range, unused, in-range, increment-message, entries-at, called-length, message-at, reads, front-length}
-use Rattle.replica_model.specs.Layout.{replica-length, entry-of, fresh-words}
+use Rattle.replica_model.specs.Layout.{replica-length, C-of, N-of, entry-of, fresh-words}
+use Rattle.replica_model.specs.declared.Reading.{Reading}
 use Rattle.replica_model.specs.Calls as calls
 use Rattle.replica_model.specs.Calls.{sizes-in-range, right, all-below, count-below, entry-well-formed, card-well-formed, row-well-formed, reading, read-on, sending, count-on, clear-on, content, all-entries, cards-known, increment-implausible, entry-plausible, plausible, taking, take-on}
 use Rattle.chassis_model.specs.declared.Step.{Step}
 use Rattle.chassis_model.specs.Parts.{part, put-part}
 use Rattle.chassis_model.specs.Log.{waiting-part, end-of}
 use Rattle.chassis_model.specs.Run as run
-use Rattle.chassis_model.specs.Run.{delivered, cards-right, step-on, state-after, answers-of, fresh-replicas, sizes-right, run-on}
+use Rattle.chassis_model.specs.Run.{State, replica-of, free-from, delivered, cards-right, step-on, state-after, answers-of, fresh-replicas, sizes-right, run-on}
 use Rattle.chassis_model.specs.Ledger.{ledger-of, ledger-reading}
 
--- after the steps on a chassis of so many cards: an entry of a card's replica (for origin card 0), and what the card reads
+-- What a card has after the steps on a chassis of so many cards and counters: of the counter its entry for the origin card, C and N of that origin, and what it
+-- reads (the value, the holder set as a number and how many cards hold); and how many bytes of its log its own messages take.
 pub record Scenario : Type 0 where
   pub cards : ℕ
+  pub counters : ℕ
   pub steps : List Step
   pub card : ℕ
   pub counter : ℕ
+  pub origin : ℕ
   pub entry : Entry
+  pub C : ℕ
+  pub N : ℕ
   pub value : ℕ
   pub holders : ℕ
+  pub holding : ℕ
+  pub logged : ℕ
 
 abbrev step : ℕ → ℕ → ℕ → Step
 step kind first second = record { kind = kind; first = first; second = second }
@@ -41,24 +50,46 @@ step kind first second = record { kind = kind; first = first; second = second }
 abbrev entry : ℕ → ℕ → ℕ → Entry
 entry p n c = record { p = p; n = n; c = c }
 
+-- "36 bytes"
+abbrev a-count : ℕ
+a-count = 36
+
+-- "28 + 20e bytes"
+abbrev a-clear-of : ℕ → ℕ
+a-clear-of e = 28 + 20 * e
+
+abbrev same-entry : Entry → Entry → Bool
+same-entry e f = eqb (e .p) (f .p) && eqb (e .n) (f .n) && eqb (e .c) (f .c)
+
+abbrev same-reading : Reading → Reading → Bool
+same-reading a b = eqb (a .number) (b .number) && eqb (a .value) (b .value) && eqb (a .holders) (b .holders) && eqb (a .count) (b .count)
+
 sum-of : List ℕ → ℕ
 sum-of [] = 0
 sum-of (x ∷ xs) = x + sum-of xs
 
--- every step is accepted, the entry is there, the read gives the value and the holders, and the ledger's reading is the read
+-- L is any number that is enough, and what is lent holds anything
+abbrev L : ℕ
+L = 150
+
+-- The run and each of its steps answer 0; the entry, C and N are there; what the card reads is the reading due, number 0, and so is what the ledger gives; and the
+-- card's own messages, as many as its own N, take the bytes.
 holds-good : Scenario → Bool
 holds-good s =
-    let zeros : List ℕ = replicate (length (s .steps)) 1 in
-    let words : List ℕ = replicate (s .cards * replica-length (s .cards) 2) 7 in
-    let after = run-on (s .cards) 2 150 (s .steps) words (replicate (s .cards * 150) 1) zeros in
-    let b = part (replica-length (s .cards) 2) (after .words) (s .card) in
-    let e = entry-of (s .cards) b (s .counter) 0 in
-    let found = read-on b (s .counter) in
-    let due = ledger-reading (s .cards) (s .card) (ledger-of (s .cards) (s .counter) (s .steps) (after .answers)) in
+    let r = s .cards in
+    let k = s .counters in
+    let words : List ℕ = replicate (r * replica-length r k) 7 in
+    let logs : List ℕ = replicate (r * L) 1 in
+    let answers : List ℕ = replicate (length (s .steps)) 1 in
+    let after = run-on r k L (s .steps) words logs answers in
+    let st : State = record { words = after .words; logs = after .logs } in
+    let b = replica-of r k L st (s .card) in
+    let due : Reading = record { number = 0; value = s .value; holders = s .holders; count = s .holding } in
     eqb (after .number) 0 && eqb (sum-of (after .answers)) 0
-    && eqb (e .p) (s .entry .p) && eqb (e .n) (s .entry .n) && eqb (e .c) (s .entry .c)
-    && eqb (found .number) 0 && eqb (found .value) (s .value) && eqb (found .holders) (s .holders)
-    && eqb (due .value) (s .value) && eqb (due .holders) (s .holders)
+    && same-entry (entry-of r b (s .counter) (s .origin)) (s .entry) && eqb (C-of b (s .origin)) (s .C) && eqb (N-of r b (s .origin)) (s .N)
+    && same-reading (read-on b (s .counter)) due
+    && same-reading (ledger-reading r (s .card) (ledger-of r (s .counter) (s .steps) (after .answers))) due
+    && eqb (free-from r k L st (s .card)) (s .logged)
 
 pub all-good : List Scenario → Bool
 all-good [] = true
@@ -68,31 +99,40 @@ all-good (s ∷ ss) = holds-good s && all-good ss
 listing : List Step
 listing = step 1 0 0 ∷ step 3 1 0 ∷ step 2 1 0 ∷ step 1 0 0 ∷ []
 
+-- "(1,0,0) (3,1,0) (2,1,0) (3,2,1)"
 overtaking : List Step
 overtaking = step 1 0 0 ∷ step 3 1 0 ∷ step 2 1 0 ∷ step 3 2 1 ∷ []
 
+-- "(1,0,0) (3,1,0) (3,2,0) (2,1,0) (3,0,1) (1,0,0) (3,2,0)"
 not-yet : List Step
 not-yet = step 1 0 0 ∷ step 3 1 0 ∷ step 3 2 0 ∷ step 2 1 0 ∷ step 3 0 1 ∷ step 1 0 0 ∷ step 3 2 0 ∷ []
 
 pub scenarios : List Scenario
 scenarios =
-    record { cards = 2; steps = listing; card = 0; counter = 0; entry = entry 2 0 2; value = 2; holders = 1 }
-    ∷ record { cards = 2; steps = listing; card = 1; counter = 0; entry = entry 0 0 0; value = 0; holders = 0 }
-    -- "After the listing, (3,0,1): card 0 has (2,1,2), value 1. Then (3,1,0): card 1 has (2,1,2), value 1."
-    ∷ record { cards = 2; steps = listing ++ step 3 0 1 ∷ []; card = 0; counter = 0; entry = entry 2 1 2; value = 1; holders = 1 }
-    ∷ record { cards = 2; steps = listing ++ step 3 0 1 ∷ step 3 1 0 ∷ []; card = 1; counter = 0; entry = entry 2 1 2; value = 1; holders = 1 }
-    -- "r = 3: (1,0,0) (3,1,0) (2,1,0) (3,2,1): card 2 has (1,1,1), value 0, holders 1. Then (3,2,0): absent, holders 0."
-    ∷ record { cards = 3; steps = overtaking; card = 2; counter = 0; entry = entry 1 1 1; value = 0; holders = 1 }
-    ∷ record { cards = 3; steps = overtaking ++ step 3 2 0 ∷ []; card = 2; counter = 0; entry = entry 0 0 0; value = 0; holders = 0 }
-    -- "r = 3: (1,0,0) (3,1,0) (3,2,0) (2,1,0) (3,0,1) (1,0,0) (3,2,0): card 2 has (2,1,2), value 1, clear not yet come. Then (3,2,1): unchanged."
-    ∷ record { cards = 3; steps = not-yet; card = 2; counter = 0; entry = entry 2 1 2; value = 1; holders = 1 }
-    ∷ record { cards = 3; steps = not-yet ++ step 3 2 1 ∷ []; card = 2; counter = 0; entry = entry 2 1 2; value = 1; holders = 1 }
+    -- the listing's lines, "0,0,2,1,0" and "1,0,0,0,1": not starred, but the orders go on from here
+    record { cards = 2; counters = 1; steps = listing; card = 0; counter = 0; origin = 0; entry = entry 2 0 2; C = 2; N = 2; value = 2; holders = 1; holding = 1; logged = a-count + a-count }
+    ∷ record { cards = 2; counters = 1; steps = listing; card = 1; counter = 0; origin = 0; entry = entry 0 0 0; C = 1; N = 1; value = 0; holders = 0; holding = 0; logged = a-clear-of 1 }
+    -- "After the listing, (3,0,1): card 0 has (2,1,2), value 1."
+    ∷ record { cards = 2; counters = 1; steps = listing ++ step 3 0 1 ∷ []; card = 0; counter = 0; origin = 0; entry = entry 2 1 2; C = 2; N = 2; value = 1; holders = 1; holding = 1; logged = a-count + a-count }
+    -- "Then (3,1,0): card 1 has (2,1,2), value 1."
+    ∷ record { cards = 2; counters = 1; steps = listing ++ step 3 0 1 ∷ step 3 1 0 ∷ []; card = 1; counter = 0; origin = 0; entry = entry 2 1 2; C = 2; N = 2; value = 1; holders = 1; holding = 1; logged = a-clear-of 1 }
+    -- "r = 3: (1,0,0) (3,1,0) (2,1,0) (3,2,1): card 2 has (1,1,1), value 0, holders 1."
+    ∷ record { cards = 3; counters = 1; steps = overtaking; card = 2; counter = 0; origin = 0; entry = entry 1 1 1; C = 0; N = 0; value = 0; holders = 1; holding = 1; logged = 0 }
+    -- "Then (3,2,0): absent, holders 0."
+    ∷ record { cards = 3; counters = 1; steps = overtaking ++ step 3 2 0 ∷ []; card = 2; counter = 0; origin = 0; entry = entry 0 0 0; C = 1; N = 1; value = 0; holders = 0; holding = 0; logged = 0 }
+    -- "r = 3: (1,0,0) (3,1,0) (3,2,0) (2,1,0) (3,0,1) (1,0,0) (3,2,0): card 2 has (2,1,2), value 1, clear not yet come."
+    -- Not yet come: nothing was received from card 1, who made it.
+    ∷ record { cards = 3; counters = 1; steps = not-yet; card = 2; counter = 0; origin = 0; entry = entry 2 1 2; C = 2; N = 2; value = 1; holders = 1; holding = 1; logged = 0 }
+    ∷ record { cards = 3; counters = 1; steps = not-yet; card = 2; counter = 0; origin = 1; entry = entry 0 0 0; C = 0; N = 0; value = 1; holders = 1; holding = 1; logged = 0 }
+    -- "Then (3,2,1): unchanged." The clear has come.
+    ∷ record { cards = 3; counters = 1; steps = not-yet ++ step 3 2 1 ∷ []; card = 2; counter = 0; origin = 0; entry = entry 2 1 2; C = 2; N = 2; value = 1; holders = 1; holding = 1; logged = 0 }
+    ∷ record { cards = 3; counters = 1; steps = not-yet ++ step 3 2 1 ∷ []; card = 2; counter = 0; origin = 1; entry = entry 0 0 0; C = 0; N = 1; value = 1; holders = 1; holding = 1; logged = 0 }
     -- "(1,0,0) (1,0,0) (1,0,1): counter 1 has (3,2,3), value 1."
-    ∷ record { cards = 2; steps = step 1 0 0 ∷ step 1 0 0 ∷ step 1 0 1 ∷ []; card = 0; counter = 1; entry = entry 3 2 3; value = 1; holders = 1 }
+    ∷ record { cards = 2; counters = 2; steps = step 1 0 0 ∷ step 1 0 0 ∷ step 1 0 1 ∷ []; card = 0; counter = 1; origin = 0; entry = entry 3 2 3; C = 3; N = 3; value = 1; holders = 1; holding = 1; logged = a-count + a-count + a-count }
     -- "(1,0,0) (2,0,0) (1,0,0): (2,1,2), value 1."
-    ∷ record { cards = 2; steps = step 1 0 0 ∷ step 2 0 0 ∷ step 1 0 0 ∷ []; card = 0; counter = 0; entry = entry 2 1 2; value = 1; holders = 1 }
-    -- "Clear on a fresh book: 28 bytes, N 1, C 0" is `replica`'s `examples-hold`; here: the counter stays empty
-    ∷ record { cards = 2; steps = step 2 0 0 ∷ []; card = 0; counter = 0; entry = entry 0 0 0; value = 0; holders = 0 }
+    ∷ record { cards = 2; counters = 1; steps = step 1 0 0 ∷ step 2 0 0 ∷ step 1 0 0 ∷ []; card = 0; counter = 0; origin = 0; entry = entry 2 1 2; C = 2; N = 3; value = 1; holders = 1; holding = 1; logged = a-count + a-clear-of 1 + a-count }
+    -- "Clear on a fresh book: 28 bytes, N 1, C 0."
+    ∷ record { cards = 2; counters = 1; steps = step 2 0 0 ∷ []; card = 0; counter = 0; origin = 0; entry = entry 0 0 0; C = 0; N = 1; value = 0; holders = 0; holding = 0; logged = 28 }
     ∷ []
 
 pub scenarios-hold : all-good scenarios ≡ true
