@@ -82,10 +82,10 @@ card-takes q T N r c s waits ok k = record {
 -- ---- the names that a clear cancels
 
 -- the latest name of j in either of card i's sets
-abbrev latest-of : ℕ → ℕ → Ledger → ℕ
+abbrev pub latest-of : ℕ → ℕ → Ledger → ℕ
 latest-of i j l = max (latest j (l .received i)) (latest j (l .cancelled i))
 
-clear-names-only : (r i : ℕ) (l : Ledger) (j o : ℕ) → has (clear-names r i l) (name j o) ≡ true → (0 < o) × (o ≤ latest-of i j l)
+pub clear-names-only : (r i : ℕ) (l : Ledger) (j o : ℕ) → has (clear-names r i l) (name j o) ≡ true → (0 < o) × (o ≤ latest-of i j l)
 unfolding clear-names
 clear-names-only zero i l j o h = has-none (name j o) h
 clear-names-only (suc r) i l j o h =
@@ -97,7 +97,7 @@ clear-names-only (suc r) i l j o h =
     (q .1, rw (q .0) (omega arith)))
     (λ e. has-none (name j o) (rw e at g)))
 
-clear-names-all : (r i : ℕ) (l : Ledger) (j o : ℕ) → j < r → holds i j l ≡ true → 0 < o → o ≤ latest-of i j l → has (clear-names r i l) (name j o) ≡ true
+pub clear-names-all : (r i : ℕ) (l : Ledger) (j o : ℕ) → j < r → holds i j l ≡ true → 0 < o → o ≤ latest-of i j l → has (clear-names r i l) (name j o) ≡ true
 unfolding clear-names
 clear-names-all zero i l j o below h a b = absurd (omega arith)
 clear-names-all (suc r) i l j o below h a b =

@@ -66,7 +66,7 @@ has-insert m s n =
     same m n e = let q = same-name-is m (n .card) (n .ordinal) e in ap₂ name (q .0) (q .1)
 
 -- the set that is left has just the names that joined and those that were there
-has-join : (a s : List Name) (n : Name) → has (join a s) n ≡ has a n || has s n
+pub has-join : (a s : List Name) (n : Name) → has (join a s) n ≡ has a n || has s n
 unfolding join has
 has-join [] s n = refl
 has-join (m ∷ a) s n = has-join a (insert m s) n ∙ rw (has-insert m s n) (or-turn (same-name m n) (has a n) (has s n))

@@ -12,7 +12,7 @@ pub mod Algorithm1
 pub mod Rows
 pub mod Runs
 pub mod Layouts
--- One counter's own steps; read-and-clear; amounts; deliveries in rounds; messages made and received.
+-- One counter's own steps; read-and-clear; amounts; deliveries in rounds; messages made and received; what was cleared.
 pub mod Alone
 pub mod ReadAndClear
 pub mod InARow
@@ -21,6 +21,7 @@ pub mod Singly
 pub mod RoundRobin
 pub mod Pending
 pub mod History
+pub mod Cleared
 -- CLAIMS
 pub mod Claims
 pub mod Examples
@@ -34,6 +35,8 @@ pub mod PendingClaims
 pub mod PendingExamples
 pub mod CaughtUpClaims
 pub mod CaughtUpExamples
+pub mod ClearClaims
+pub mod ClearedExamples
 -- LAWS. Case splits, tables, lists.
 pub mod Cases
 pub mod Tables
@@ -85,5 +88,7 @@ pub mod Messages
 pub mod Causality
 pub mod HistoryLaws
 pub mod CaughtUpLaws
+-- What is cancelled was seen by a card that cleared.
+pub mod ClearedLaws
 -- Replicas kept in words.
 pub mod Stores

@@ -206,6 +206,11 @@ tally-cong p q [] h = refl
 tally-cong p q (n ∷ s) h =
     rw (h n (has-first n s (n .card) (n .ordinal) refl refl), tally-cong p q s (λ m c. h m (has-more n s m c)))
 
+pub tally-none : (p : Name → Bool) (s : List Name) → ((n : Name) → has s n ≡ true → p n ≡ false) → tally p s ≡ 0
+unfolding tally
+tally-none p [] h = refl
+tally-none p (n ∷ s) h = rw (h n (has-first n s (n .card) (n .ordinal) refl refl), tally-none p s (λ m c. h m (has-more n s m c)))
+
 -- names of cards below r are counted card by card
 tally-by-card : (r : ℕ) (p : Name → Bool) (s : List Name) → ((n : Name) → has s n ≡ true → n .card < r)
     → tally p s ≡ sum r (λ j. tally (λ n. eqb (n .card) j && p n) s)
