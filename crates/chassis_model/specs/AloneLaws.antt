@@ -12,7 +12,8 @@ use Rattle.protocol.specs.Limits.{MAX}
 use Rattle.protocol.specs.Cases.{by-le, by-place, by-test, and-left}
 use Rattle.protocol.specs.Ledger.{Ledger, empty-ledger, entered, fed, holds}
 use Rattle.protocol.specs.Chassis.{Message, increment, clearing, Chassis, fresh-chassis, done, enabled, stepped}
-use Rattle.protocol.specs.Alone.{Turns, no-turns, belongs, own-steps, outline, room}
+use Rattle.protocol.specs.Alone as queues
+use Rattle.protocol.specs.Alone.{Turns, no-turns, belongs, outline, room}
 use Rattle.protocol.specs.AloneLedgers.{same-holds, own-waits}
 use Rattle.protocol.specs.AloneRuns.{RunsBeside, fresh-beside, own-done, other-done, room-within}
 use Rattle.wire.specs.Message as form
@@ -26,6 +27,8 @@ use Rattle.chassis_model.specs.Numbered.{numbered, wire-log, length-numb
 use Rattle.chassis_model.specs.Run.{Step, State, replica-of, log-of, N-at, free-from, cards-right, step-on, state-after, answers-of, sizes-right, run-on, count-kind, clear-kind, deliver-kind}
 use Rattle.chassis_model.specs.Answers.{fresh-state, message-size, making-answer, due-answer}
 use Rattle.chassis_model.specs.Ledger.{ledger-step, was-accepted}
+use Rattle.chassis_model.specs.Alone.{own-steps}
+use Rattle.chassis_model.specs.AloneQueues.{queued-steps, own-steps-are}
 use Rattle.chassis_model.specs.InStep.{InStep, reached-N, made-all}
 use Rattle.chassis_model.specs.Matches.{Matches}
 use Rattle.chassis_model.specs.Stepping.{step-of-kind, by-kind}
@@ -199,17 +202,14 @@ module _ (r k L q : ℕ) (s : Step) (ss own : List Step) (st st′ : State) wher
   both-more e h = record { accepts = rw e (ap (λ (rest : List ℕ). 0 ∷ rest) (h .accepts)); reads = h .reads }
 
 module _ (r k L q : ℕ) where
-  abbrev Own : List Step → Turns → State → List Step
-  Own ss turns st = own-steps ledger-step q ss (map was-accepted (answers-of r k L ss st)) turns
-
   abbrev FromBeside : List Step → Type 0
   FromBeside ss =
       (turns : Turns) (st : State) (ch : Chassis) (ls : ℕ → Ledger) → Matches r k L st ch ls
       → (st′ : State) (ch′ : Chassis) (ls′ : ℕ → Ledger) → Matches r k L st′ ch′ ls′
-      → RunsBeside r q turns ch (ls q) ch′ (ls′ q) → OwnRun r k L q ss st (Own ss turns st) st′
+      → RunsBeside r q turns ch (ls q) ch′ (ls′ q) → OwnRun r k L q ss st (queued-steps r k L q ss st turns) st′
 
   from-none : FromBeside []
-  unfolding state-after answers-of own-steps
+  unfolding state-after answers-of queues.own-steps
   from-none turns st ch ls h st′ ch′ ls′ h′ b = record {
     accepts = refl;
     reads = λ i hi hq.
@@ -219,7 +219,7 @@ module _ (r k L q : ℕ) where
   }
 
   from-step : (s : Step) (ss : List Step) → FromBeside ss → FromBeside (s ∷ ss)
-  unfolding answers-of own-steps
+  unfolding answers-of queues.own-steps
   from-step s ss rest turns st ch ls h st′ ch′ ls′ h′ b =
       by-place (step-on r k L s st .answer) 0
       (λ e. by-test (belongs q (ledger-step s) turns)
@@ -239,27 +239,31 @@ module _ (r k L q : ℕ) where
 
 -- ---- a run from right sizes
 
+module _ (r k L q : ℕ) (steps : List Step) (words logs answers : List ℕ) (right : sizes-right r k L (length steps) words logs answers ≡ true) where
+  begins : Matches r k L (fresh-state r k L logs) fresh-chassis (λ q. empty-ledger)
+  begins = let z = right-sizes r k L (length steps) words logs answers right in fresh-matches r k L logs (z .0) (z .1)
+
+  own-queued : own-steps r k L q steps logs ≡ queued-steps r k L q steps (fresh-state r k L logs) no-turns
+  own-queued = own-steps-are r k L q steps (fresh-state r k L logs) fresh-chassis (λ q. empty-ledger) begins no-turns (λ s i d. refl)
+
+  pub own-steps-told : own-steps r k L q steps logs
+      ≡ queues.own-steps ledger-step q steps (map was-accepted (run-on r k L steps words logs answers .answers)) no-turns
+  own-steps-told = rw (answers-are r k L steps words logs answers right) own-queued
+
 module _ (r k L q : ℕ) (steps : List Step) (words words′ logs logs′ answers answers′ : List ℕ)
-    (right : sizes-right r k L (length steps) words logs answers ≡ true) where
-  own-of-run : (own : List Step) → own ≡ Own r k L q steps no-turns (fresh-state r k L logs) → sizes-right r k L (length own) words′ logs′ answers′ ≡ true
-      → OwnRun r k L q steps (fresh-state r k L logs) own (fresh-state r k L logs′)
-  own-of-run own e right′ =
-      let z = right-sizes r k L (length steps) words logs answers right in
-      let z′ = right-sizes r k L (length own) words′ logs′ answers′ right′ in
-      rw e
-      (own-run r k L q steps no-turns _ fresh-chassis (λ q. empty-ledger) (fresh-matches r k L logs (z .0) (z .1))
-      _ fresh-chassis (λ q. empty-ledger) (fresh-matches r k L logs′ (z .0) (z′ .1)) (fresh-beside r q))
+    (right : sizes-right r k L (length steps) words logs answers ≡ true)
+    (right′ : sizes-right r k L (length (own-steps r k L q steps logs)) words′ logs′ answers′ ≡ true) where
+  ran : OwnRun r k L q steps (fresh-state r k L logs) (own-steps r k L q steps logs) (fresh-state r k L logs′)
+  ran =
+      rw (own-queued r k L q steps words logs answers right)
+      (own-run r k L q steps no-turns _ fresh-chassis (λ q. empty-ledger) (begins r k L q steps words logs answers right)
+      _ fresh-chassis (λ q. empty-ledger) (begins r k L q (own-steps r k L q steps logs) words′ logs′ answers′ right′) (fresh-beside r q))
 
-  module _ (own : List Step) (is : own ≡ own-steps ledger-step q steps (map was-accepted (run-on r k L steps words logs answers .answers)) no-turns)
-      (right′ : sizes-right r k L (length own) words′ logs′ answers′ ≡ true) where
-    ran : OwnRun r k L q steps (fresh-state r k L logs) own (fresh-state r k L logs′)
-    ran = own-of-run own (rw (answers-are r k L steps words logs answers right) at is) right′
+  pub all-accepted-alone : run-on r k L (own-steps r k L q steps logs) words′ logs′ answers′ .answers ≡ map (λ s. 0) (own-steps r k L q steps logs)
+  all-accepted-alone = answers-are r k L (own-steps r k L q steps logs) words′ logs′ answers′ right′ ∙ ran .accepts
 
-    pub all-accepted-alone : run-on r k L own words′ logs′ answers′ .answers ≡ map (λ s. 0) own
-    all-accepted-alone = answers-are r k L own words′ logs′ answers′ right′ ∙ ran .accepts
-
-    pub same-reads-alone : (i : ℕ) → i < r → q < k
-        → read-on (part (replica-length r k) (run-on r k L own words′ logs′ answers′ .words) i) q
-        ≡ read-on (part (replica-length r k) (run-on r k L steps words logs answers .words) i) q
-    same-reads-alone i hi hq =
-        rw (words-are r k L own words′ logs′ answers′ right′, words-are r k L steps words logs answers right) (ran .reads i hi hq)
+  pub same-reads-alone : (i : ℕ) → i < r → q < k
+      → read-on (part (replica-length r k) (run-on r k L (own-steps r k L q steps logs) words′ logs′ answers′ .words) i) q
+      ≡ read-on (part (replica-length r k) (run-on r k L steps words logs answers .words) i) q
+  same-reads-alone i hi hq =
+      rw (words-are r k L (own-steps r k L q steps logs) words′ logs′ answers′ right′, words-are r k L steps words logs answers right) (ran .reads i hi hq)

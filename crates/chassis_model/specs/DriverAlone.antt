@@ -14,16 +14,17 @@ use Rattle.protocol.specs.Ledger as ledger
 use Rattle.protocol.specs.Ledger.{Ledger, empty-ledger, entered, fed}
 use Rattle.protocol.specs.Chassis.{Chassis, fresh-chassis, done, enabled, stepped}
 use Rattle.protocol.specs.Enabled.{deliver-enabled}
-use Rattle.protocol.specs.Alone.{Turns, no-turns, belongs, own-steps}
+use Rattle.protocol.specs.Alone as queues
+use Rattle.protocol.specs.Alone.{Turns, no-turns, belongs}
 use Rattle.protocol.specs.AloneRuns.{RunsBeside, fresh-beside, own-enabled, own-done, other-done}
 use Rattle.wire.specs.Message.{message-at}
 use Rattle.replica_model.specs.Layout.{N-of}
 use Rattle.replica_model.specs.Calls.{sizes-in-range, read-on}
 use Rattle.replica_model.specs.RowLaws.{sizes}
-use Rattle.chassis_model.specs.Ledger.{was-accepted}
 use Rattle.chassis_model.specs.Answers.{message-size}
 use Rattle.chassis_model.specs.Driver.{Call, count, clear, take, Cards, opened, called, number-of, GenuineCall, Genuine, after, numbers, cards-after, GenuineHistory, call-step, send-number, due-number}
-use Rattle.chassis_model.specs.AloneOf.{own-calls, again, replayed}
+use Rattle.chassis_model.specs.Alone.{own-calls, again, replayed}
+use Rattle.chassis_model.specs.AloneQueues.{queued-calls, own-calls-are}
 use Rattle.chassis_model.specs.InStep.{reached-N, made-all}
 use Rattle.chassis_model.specs.Reads.{read-matches}
 use Rattle.chassis_model.specs.TheoryReads.{same-reading}
@@ -148,10 +149,10 @@ module _ (r k q : ℕ) where
   FromBeside cs =
       (turns : Turns) (st : Cards) (ch : Chassis) (ls : ℕ → Ledger) → DriverMatches r k st ch ls → Genuine cs st
       → (st′ : Cards) (ch′ : Chassis) (ls′ : ℕ → Ledger) → DriverMatches r k st′ ch′ ls′
-      → RunsBeside r q turns ch (ls q) ch′ (ls′ q) → OwnHistory r k q cs st (own-steps call-step q cs (map was-accepted (numbers cs st)) turns) st′
+      → RunsBeside r q turns ch (ls q) ch′ (ls′ q) → OwnHistory r k q cs st (queued-calls q cs st turns) st′
 
   from-none : FromBeside []
-  unfolding after numbers own-steps replayed
+  unfolding after numbers queues.own-steps replayed
   from-none turns st ch ls m g st′ ch′ ls′ m′ b = record {
     genuine = tt;
     accepts = refl;
@@ -163,7 +164,7 @@ module _ (r k q : ℕ) where
   }
 
   from-call : (c : Call) (cs : List Call) → FromBeside cs → FromBeside (c ∷ cs)
-  unfolding numbers own-steps
+  unfolding numbers queues.own-steps
   from-call c cs rest turns st ch ls m (g, gs) st′ ch′ ls′ m′ b =
       by-place (number-of c st) 0
       (λ e. by-test (belongs q (call-step c) turns)
@@ -186,13 +187,20 @@ module _ (r k q : ℕ) where
   own-history [] = from-none
   own-history (c ∷ cs) = from-call c cs (own-history cs)
 
-pub calls-alone : (r k q : ℕ) → sizes-in-range r k ≡ true → (calls : List Call) → GenuineHistory r k calls
-    → let own = own-calls q calls (numbers calls (opened r k)) in
-    let again = replayed r own (opened r k) in
-    GenuineHistory r k again × (numbers again (opened r k) ≡ map (λ c. 0) own) × (map call-step again ≡ map call-step own)
-    × ((i : ℕ) → i < r → q < k → read-on (cards-after r k again .words i) q ≡ read-on (cards-after r k calls .words i) q)
-calls-alone r k q right calls genuine =
-    let z = sizes r k right in
-    let h = own-history r k q calls no-turns (opened r k) fresh-chassis (λ q. empty-ledger) (opened-matches r k z) genuine
-    (opened r k) fresh-chassis (λ q. empty-ledger) (opened-matches r k z) (fresh-beside r q) in
-    (h .genuine, h .accepts, h .steps, h .reads)
+module _ (r k q : ℕ) (right : sizes-in-range r k ≡ true) (calls : List Call) (genuine : GenuineHistory r k calls) where
+  pub own-calls-told : own-calls r k q calls ≡ queued-calls q calls (opened r k) no-turns
+  own-calls-told =
+      own-calls-are r k q calls (opened r k) fresh-chassis (λ q. empty-ledger) (opened-matches r k (sizes r k right)) genuine no-turns (λ s i d. refl)
+
+  went : OwnHistory r k q calls (opened r k) (own-calls r k q calls) (opened r k)
+  went =
+      let begins = opened-matches r k (sizes r k right) in
+      rw own-calls-told
+      (own-history r k q calls no-turns (opened r k) fresh-chassis (λ q. empty-ledger) begins genuine
+      (opened r k) fresh-chassis (λ q. empty-ledger) begins (fresh-beside r q))
+
+  pub calls-alone : let own = own-calls r k q calls in
+      let again = replayed r own (opened r k) in
+      GenuineHistory r k again × (numbers again (opened r k) ≡ map (λ c. 0) own) × (map call-step again ≡ map call-step own)
+      × ((i : ℕ) → i < r → q < k → read-on (cards-after r k again .words i) q ≡ read-on (cards-after r k calls .words i) q)
+  calls-alone = (went .genuine, went .accepts, went .steps, went .reads)

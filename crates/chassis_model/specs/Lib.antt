@@ -8,7 +8,7 @@ pub mod Run
 pub mod Ledger
 pub mod Answers
 pub mod Driver
-pub mod AloneOf
+pub mod Alone
 pub mod ReadAndClearOf
 pub mod Algorithm1Of
 pub mod Pending
@@ -50,6 +50,7 @@ pub mod StepBytesLaws
 -- What follows: answers, the theorem; and for the code, the places of the links.
 pub mod AnswerLaws
 pub mod Theorem
+pub mod AloneQueues
 pub mod AloneLaws
 pub mod PendingChecked
 pub mod PendingLaws

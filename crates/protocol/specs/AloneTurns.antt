@@ -19,7 +19,7 @@ use Rattle.protocol.specs.Runs.{step-of}
 use Rattle.protocol.specs.Alone.{Turns, no-turns, turned, turn-is, belongs, own-steps, alone, step-counter, accepted-of}
 use Rattle.protocol.specs.Enabled.{deliver-enabled}
 
-abbrev TurnsAre : Turns → Chassis → Type 0
+abbrev pub TurnsAre : Turns → Chassis → Type 0
 TurnsAre turns st = (s i : ℕ) → (i ≡ s → ⊥) → turns s i ≡ map counter-of (drop (st .replica i .N s) (st .log s))
 
 module _ (r q : ℕ) (st : Chassis) (l : Ledger) (ok : Ok r q st l) (turns : Turns) (k : TurnsAre turns st) where
@@ -64,14 +64,14 @@ module _ (r q : ℕ) (st : Chassis) (l : Ledger) (ok : Ok r q st l) (turns : Tur
   done-turns (clear i c) on = issued-turns i _
   done-turns (deliver i s) on = delivered-turns i s (deliver-enabled r i s st on .apart) (handed-made i s on)
 
-  belongs-is : (s : Step) → enabled r s st ≡ true → belongs q s turns ≡ eqb (step-counter s st) q
+  pub belongs-is : (s : Step) → enabled r s st ≡ true → belongs q s turns ≡ eqb (step-counter s st) q
   unfolding belongs step-counter turn-is
   belongs-is (count i c w) on = refl
   belongs-is (clear i c) on = refl
   belongs-is (deliver i s) on = rw (next-turn i s (deliver-enabled r i s st on .apart) (handed-made i s on))
 
   -- a step that may be declined
-  stepped-turns : (o : Offer) → TurnsAre (cond (accepted r o st) (turned (o .step) turns) turns) (stepped r o st)
+  pub stepped-turns : (o : Offer) → TurnsAre (cond (accepted r o st) (turned (o .step) turns) turns) (stepped r o st)
   unfolding stepped
   stepped-turns o =
       by-test (accepted r o st)
