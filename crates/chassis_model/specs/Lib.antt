@@ -52,6 +52,7 @@ pub mod AnswerLaws
 pub mod Theorem
 pub mod AloneQueues
 pub mod AloneLaws
+pub mod AloneOthers
 pub mod PendingChecked
 pub mod PendingLaws
 pub mod Ends
