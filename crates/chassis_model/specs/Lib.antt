@@ -19,6 +19,7 @@ pub mod Scenarios
 pub mod DriverClaims
 pub mod DriverExamples
 pub mod AloneClaims
+pub mod AloneExamples
 pub mod ReadAndClearClaims
 pub mod Algorithm1Claims
 pub mod PendingClaims
