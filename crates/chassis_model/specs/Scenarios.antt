@@ -1,5 +1,5 @@
 -- CLAIMS. Document 01's starred orders ("Orders from the bench") as one list under one theorem, computed on the run's definition. Every figure of an order is
--- looked for in one run of its steps, and was worked out by hand from the document's rules.
+-- looked for in one run of its steps, and was worked out by hand from the document's rules. With a few more orders, each of the document's wrong turns fails.
 use Prim.Native.Nat.{ℕ, _+_, _*_}
 use mathlib.Core.Path.{_≡_, refl}
 use mathlib.Core.List.{List, [], _∷_, _++_}
@@ -107,6 +107,10 @@ overtaking = step 1 0 0 ∷ step 3 1 0 ∷ step 2 1 0 ∷ step 3 2 1 ∷ []
 not-yet : List Step
 not-yet = step 1 0 0 ∷ step 3 1 0 ∷ step 3 2 0 ∷ step 2 1 0 ∷ step 3 0 1 ∷ step 1 0 0 ∷ step 3 2 0 ∷ []
 
+-- card 1 clears two counts of card 0, and the clear is the first to reach card 2
+abbrev both-cleared : List Step
+both-cleared = step 1 0 0 ∷ step 1 0 0 ∷ step 3 1 0 ∷ step 3 1 0 ∷ step 2 1 0 ∷ step 3 2 1 ∷ []
+
 pub scenarios : List Scenario
 scenarios =
     -- the listing's lines, "0,0,2,1,0" and "1,0,0,0,1": not starred, but the orders go on from here
@@ -133,6 +137,11 @@ scenarios =
     ∷ record { cards = 2; counters = 1; steps = step 1 0 0 ∷ step 2 0 0 ∷ step 1 0 0 ∷ []; card = 0; counter = 0; origin = 0; entry = entry 2 1 2; C = 2; N = 3; value = 1; holders = 1; holding = 1; logged = a-count + a-clear-of 1 + a-count }
     -- "Clear on a fresh book: 28 bytes, N 1, C 0."
     ∷ record { cards = 2; counters = 1; steps = step 2 0 0 ∷ []; card = 0; counter = 0; origin = 0; entry = entry 0 0 0; C = 0; N = 1; value = 0; holders = 0; holding = 0; logged = 28 }
+    -- "Wrong turns: .. dropping an entry as soon as p = n". Not starred: the entry stays past a clear, past the first of two increments that it cancels, and goes
+    -- with the second.
+    ∷ record { cards = 3; counters = 1; steps = overtaking ++ step 2 2 0 ∷ []; card = 2; counter = 0; origin = 0; entry = entry 1 1 1; C = 0; N = 0; value = 0; holders = 1; holding = 1; logged = a-clear-of 1 }
+    ∷ record { cards = 3; counters = 1; steps = both-cleared ++ step 3 2 0 ∷ []; card = 2; counter = 0; origin = 0; entry = entry 2 2 2; C = 1; N = 1; value = 0; holders = 1; holding = 1; logged = 0 }
+    ∷ record { cards = 3; counters = 1; steps = both-cleared ++ step 3 2 0 ∷ step 3 2 0 ∷ []; card = 2; counter = 0; origin = 0; entry = entry 0 0 0; C = 2; N = 2; value = 0; holders = 0; holding = 0; logged = 0 }
     ∷ []
 
 pub scenarios-hold : all-good scenarios ≡ true
