@@ -71,6 +71,10 @@ most-steps = 256
 abbrev pub log-bytes : ℕ
 log-bytes = 4096
 
+-- the bytes of the largest right input, r and k and 256 steps, and one more, by which a longer one is known
+abbrev pub input-bytes : ℕ
+input-bytes = 8 + 12 * most-steps + 1
+
 -- the run's words: every replica begins fresh, so what they held before does not matter
 unfoldable pub words-after : ℕ → ℕ → List ℕ → List ℕ
 words-after r k steps =

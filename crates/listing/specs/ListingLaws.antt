@@ -1,4 +1,5 @@
--- LAWS. The parts of a line, the sizes of a right input, the words of a run that begins with zeros, and a listing stored at the front. Assumes nothing.
+-- LAWS. The parts of a line, the sizes of a right input, the words of a run that begins with zeros, which bytes decide a listing, and a listing stored at the
+-- front. Assumes nothing.
 use Prim.Native.Nat.{ℕ, zero, suc, _+_, _-_, _*_, _/_, _%_, _≤_}
 use mathlib.Core.Path.{_≡_, refl, sym, ap, _∙_}
 use mathlib.Core.List.{List, _∷_, _++_, append-assoc}
@@ -8,15 +9,15 @@ use native.Mathlib.Omega.{arith}
 use borrow.Author.Tests.{leb-true}
 use lib.Dec.{leb, eqb}
 use lib.ListN.{length, take, drop, replicate, length-drop, length-replicate}
-use lib.Seq.{length-sets, take-length, length-take-le}
-use Rattle.protocol.specs.Cases.{and-left, and-right}
+use lib.Seq.{length-sets, take-length, take-all, length-take-le}
+use Rattle.protocol.specs.Cases.{by-le, and-left, and-right, not-yes}
 use Rattle.wire.specs.Number.{int-at}
 use Rattle.wire.specs.Message.{over}
 use Rattle.wire.specs.Lists.{sets-front}
 use Rattle.replica_model.specs.declared.Reading.{Reading}
 use Rattle.replica_model.specs.Layout.{replica-length}
 use Rattle.chassis_model.specs.Run.{RunOutcome, run-bytes-on}
-use Rattle.listing.specs.Listing.{comma, crlf, header, refused-11, decimal, quiet, line, lines, log-bytes, words-after, input-right, listing-of}
+use Rattle.listing.specs.Listing.{comma, crlf, header, refused-11, decimal, quiet, line, lines, log-bytes, input-bytes, words-after, input-right, listing-of}
 use Rattle.listing.specs.Text.{Put, Sized}
 
 -- a line as four fields that a comma ends, a last one and the line end
@@ -99,6 +100,16 @@ pub listing-right : (input : List ℕ) → input-right input ≡ true
     → listing-of input ≡ header ++ lines (int-at input 0) (int-at input 4) (words-after (int-at input 0) (int-at input 4) (drop 8 input)) (int-at input 0)
 unfolding listing-of
 listing-right input right = rw right
+
+listing-too-long : (input : List ℕ) → input-bytes ≤ length input → listing-of input ≡ refused-11
+listing-too-long input long =
+    listing-refused input (not-yes (input-right input) (λ right. omega (arith, length-drop 8 input, right-input input right .sized .few)))
+
+pub first-bytes-decide : (input : List ℕ) → listing-of (take input-bytes input) ≡ listing-of input
+first-bytes-decide input =
+    by-le input-bytes (length input)
+    (λ long. listing-too-long (take input-bytes input) (omega (arith, length-take-le input-bytes input long)) ∙ sym (listing-too-long input long))
+    (λ short. ap listing-of (take-all input-bytes input (omega arith)))
 
 -- bytes stored at the front where there is room
 pub put-front : {most behind : ℕ} {out bytes after : List ℕ} → Put most out 0 bytes after behind → most ≤ length out

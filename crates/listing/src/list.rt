@@ -32,7 +32,7 @@ const STEP_BYTES: usize = 12;
 // Four replicas of four cards and eight counters, of 107 words each.
 const MOST_WORDS: usize = 428;
 
-// The largest input that is right, and one byte more, by which a larger one is known.
+// The largest input that is right, and one byte more, by which a larger one is known: these decide the listing (claim `first-bytes-decide`).
 pub const INPUT_BYTES: usize = STEPS_AT + STEP_BYTES * MOST_STEPS + 1;
 
 // Enough for every listing: the header's 34 bytes and 32 lines of at most 106 (five numbers of at most twenty digits, four commas, the line end)
