@@ -6,16 +6,15 @@ use Prim.Native.Nat.{ℕ, _/_, _%_, _<_}
 use mathlib.Core.Path.{_≡_}
 use mathlib.Core.Logic.{_↔_}
 use mathlib.Core.Bool.{true}
-use mathlib.Core.List.{List, _∷_, _++_, map}
+use mathlib.Core.List.{List, _∷_, _++_}
 use lib.ListN.{length, getD}
 use Rattle.protocol.specs.Limits.{wrong-sizes}
-use Rattle.protocol.specs.Runs.{AllAlike}
 use Rattle.wire.specs.NumberLaws.{Bytes}
 use Rattle.replica_model.specs.Layout.{replica-length}
 use Rattle.replica_model.specs.Calls.{read-on}
 use Rattle.chassis_model.specs.Parts.{part}
 use Rattle.chassis_model.specs.Run.{Step, state-after, answers-of, sizes-right, run-on, steps-bytes, AllFit, steps-of, run-bytes-on}
-use Rattle.chassis_model.specs.Ledger.{ledger-step, ledger-of, ledger-reading}
+use Rattle.chassis_model.specs.Ledger.{ledger-of, ledger-reading}
 use Rattle.chassis_model.specs.Answers.{fresh-state, due-answer, run-answer}
 use Rattle.chassis_model.specs.RunLaws as run-laws
 use Rattle.chassis_model.specs.StepBytesLaws as step-bytes-laws
@@ -71,17 +70,6 @@ pub run-answers : (r k L : ℕ) (before : List Step) (s : Step) (after : List St
     → sizes-right r k L (length (before ++ s ∷ after)) words logs answers ≡ true
     → run-answer (getD (run-on r k L (before ++ s ∷ after) words logs answers .answers) (length before) 0) ≡ true
 run-answers = theorem.run-answers
-
--- ISOLATION. Two lists that got the same answers and differ only in which counters other than q their other counts and clears name (and which of the two they
--- are) leave every card with the same read of q, whatever the words, the logs and their length were.
-pub isolation : (r k L L′ q : ℕ) (steps steps′ : List Step) (words words′ logs logs′ answers answers′ : List ℕ)
-    → sizes-right r k L (length steps) words logs answers ≡ true → sizes-right r k L′ (length steps′) words′ logs′ answers′ ≡ true
-    → AllAlike q (map ledger-step steps) (map ledger-step steps′)
-    → run-on r k L steps words logs answers .answers ≡ run-on r k L′ steps′ words′ logs′ answers′ .answers
-    → (i : ℕ) → i < r → q < k
-    → read-on (part (replica-length r k) (run-on r k L steps words logs answers .words) i) q
-    ≡ read-on (part (replica-length r k) (run-on r k L′ steps′ words′ logs′ answers′ .words) i) q
-isolation = theorem.isolation
 
 -- BOTH FORMS OF STEPS. A list of steps lent as bytes, three unsigned ints each, and the same list lent as records give the same run: its number, words, logs and
 -- answers.

@@ -1,6 +1,6 @@
 -- LAWS. A run beside the ledgers: by induction over the steps every state is reached, so reads are the ledger's readings and answers are those due.
 use Prim.Native.Nat.{ℕ, _*_, _<_}
-use mathlib.Core.Path.{_≡_, refl, sym, ap, ap₂, _∙_}
+use mathlib.Core.Path.{_≡_, refl, ap, ap₂, _∙_}
 use mathlib.Core.Bool.{Bool, true}
 use mathlib.Core.List.{List, [], _∷_, _++_, map}
 use lib.ListN.{length, getD}
@@ -8,8 +8,7 @@ use Rattle.protocol.specs.Ledger as ledger
 use Rattle.protocol.specs.Ledger.{Ledger, empty-ledger, kept}
 use Rattle.protocol.specs.Chassis as protocol
 use Rattle.protocol.specs.Chassis.{Chassis, fresh-chassis, Offer, run}
-use Rattle.protocol.specs.Runs.{step-of, AllAlike}
-use Rattle.protocol.specs.Isolation.{alike-kept}
+use Rattle.protocol.specs.Runs.{step-of}
 use Rattle.replica_model.specs.Layout.{replica-length}
 use Rattle.replica_model.specs.Calls.{read-on}
 use Rattle.replica_model.specs.RowLaws.{sizes}
@@ -110,17 +109,3 @@ module _ (r k L : ℕ) (before : List Step) (s : Step) (after : List Step) (word
   pub run-answers : run-answer (getD (run-on r k L (before ++ s ∷ after) words logs answers .answers) (length before) 0) ≡ true
   run-answers = rw (step-answers 0) (due-is-answer r k L 0 s _ _)
 
--- ---- lists that differ only in other counters
-
-pub isolation : (r k L L′ q : ℕ) (steps steps′ : List Step) (words words′ logs logs′ answers answers′ : List ℕ)
-    → sizes-right r k L (length steps) words logs answers ≡ true → sizes-right r k L′ (length steps′) words′ logs′ answers′ ≡ true
-    → AllAlike q (map ledger-step steps) (map ledger-step steps′)
-    → run-on r k L steps words logs answers .answers ≡ run-on r k L′ steps′ words′ logs′ answers′ .answers
-    → (i : ℕ) → i < r → q < k
-    → read-on (part (replica-length r k) (run-on r k L steps words logs answers .words) i) q
-    ≡ read-on (part (replica-length r k) (run-on r k L′ steps′ words′ logs′ answers′ .words) i) q
-unfolding ledger-of
-isolation r k L L′ q steps steps′ words words′ logs logs′ answers answers′ right right′ alike same i hi hq =
-    ledger-theorem r k L steps words logs answers right i q hi hq
-    ∙ rw (same, alike-kept r q (map ledger-step steps) (map ledger-step steps′) (map was-accepted (run-on r k L′ steps′ words′ logs′ answers′ .answers)) empty-ledger alike)
-    (sym (ledger-theorem r k L′ steps′ words′ logs′ answers′ right′ i q hi hq))

@@ -6,16 +6,15 @@
 use Prim.Native.Nat.{ℕ, _≤_, _<_}
 use mathlib.Core.Path.{_≡_}
 use mathlib.Core.Bool.{Bool, not, _&&_}
-use mathlib.Core.List.{List, map}
+use mathlib.Core.List.{List}
 use lib.Dec.{eqb, ltb}
 use lib.ListN.{getD}
-use Rattle.protocol.specs.Ledger.{Step, deliver, Ledger, kept, link-waits, ledger-value, ledger-holders}
-use Rattle.protocol.specs.Chassis.{increment, clearing, no-message, ClearEntry, Replica, taken, count-message, clear-message, fresh-chassis, Offer, enabled, answers, read-value, read-holders}
+use Rattle.protocol.specs.Ledger.{deliver, link-waits, ledger-value, ledger-holders}
+use Rattle.protocol.specs.Chassis.{increment, clearing, no-message, ClearEntry, Replica, taken, count-message, clear-message, Offer, enabled, read-value, read-holders}
 use Rattle.protocol.specs.Rows.{WellFormed, WellFormedRow, Plausible}
-use Rattle.protocol.specs.Runs.{step-of, after-run, ledger-after, AmountsOne, AllAlike}
+use Rattle.protocol.specs.Runs.{after-run, ledger-after, AmountsOne}
 use Rattle.protocol.specs.Algorithm1.{value, inc-generator, inc-effector, reset-generator, reset-effector, state-of, message-of, SomeUnits}
 use Rattle.protocol.specs.Theorem as theorem
-use Rattle.protocol.specs.Isolation.{alike-kept, alike-ledgers, alike-values, alike-holders}
 use Rattle.protocol.specs.Links.{deliver-enabled-is}
 use Rattle.protocol.specs.Refusals as refusals
 use Rattle.protocol.specs.Algorithm1Laws.{value-agrees, inc-message-agrees, reset-message-agrees, inc-effector-agrees, inc-effector-C, reset-effector-agrees, reset-effector-C}
@@ -25,21 +24,6 @@ pub ledger-theorem : (r q i : ℕ) (os : List Offer)
     → (read-value r q (after-run r os .replica i) ≡ ledger-value i (ledger-after r q os))
     × (read-holders r q (after-run r os .replica i) ≡ ledger-holders r i (ledger-after r q os))
 ledger-theorem r q i os = let a = theorem.ledger-theorem r q i os in (a .value, a .holders)
-
--- The ledger of q does not see which other counters other steps name: lists that differ only there keep the same ledger, whatever the flags.
-pub ledger-isolation : (r q : ℕ) (ss ss′ : List Step) (flags : List Bool) (l : Ledger)
-    → AllAlike q ss ss′ → kept r q ss flags l ≡ kept r q ss′ flags l
-ledger-isolation = alike-kept
-
--- ISOLATION. Two lists with the same accepted flags that differ only in which other counters their other steps name leave counter q with
--- the same ledger, and every card reads the same of it.
-pub isolation : (r q : ℕ) (os os′ : List Offer)
-    → AllAlike q (map step-of os) (map step-of os′) → answers r os fresh-chassis ≡ answers r os′ fresh-chassis
-    → (ledger-after r q os ≡ ledger-after r q os′)
-    × ((i : ℕ) → read-value r q (after-run r os .replica i) ≡ read-value r q (after-run r os′ .replica i))
-    × ((i : ℕ) → read-holders r q (after-run r os .replica i) ≡ read-holders r q (after-run r os′ .replica i))
-isolation r q os os′ alike flags =
-    (alike-ledgers r q os os′ alike flags, alike-values r q os os′ alike flags, alike-holders r q os os′ alike flags)
 
 -- A delivery is enabled exactly when both cards are there, they are two, and the ledger's link has something to hand over.
 pub deliver-enabled : (r q i s : ℕ) (os : List Offer)

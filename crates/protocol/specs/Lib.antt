@@ -60,7 +60,6 @@ pub mod Theorem
 pub mod RunLaws
 pub mod Links
 pub mod Refusals
-pub mod Isolation
 -- One counter's own steps alone.
 pub mod AloneLedgers
 pub mod AloneRuns

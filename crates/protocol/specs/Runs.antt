@@ -1,7 +1,6 @@
--- DEFINITIONS. What the claims speak of: a run from a fresh chassis, the ledger that was told which of its steps were accepted,
--- lists whose counts are all by 1, and lists that differ only in which other counters their other steps name.
+-- DEFINITIONS. What the claims speak of: a run from a fresh chassis, the ledger that was told which of its steps were accepted, and lists whose counts
+-- are all by 1.
 use Prim.Native.Nat.{ℕ, _≤_}
-use mathlib.Core.Path.{_≡_}
 use mathlib.Core.Bool.{Bool, true}
 use mathlib.Core.List.{List, [], _∷_, map}
 use Rattle.protocol.specs.Ledger.{Step, count, clear, deliver, Ledger, empty-ledger, kept}
@@ -32,23 +31,3 @@ StepByOne (deliver i s) = Unit {0}
 abbrev pub AmountsOne : List Offer → Type 0
 AmountsOne [] = Unit {0}
 AmountsOne (o ∷ os) = StepByOne (o .step) × AmountsOne os
-
--- ---- the same list, as far as counter q is concerned
-
--- a count or a clear by card i, of a counter other than q
-abbrev pub Elsewhere : ℕ → ℕ → Step → Type 0
-Elsewhere q i (count j k w) = (j ≡ i) × (k ≡ q → ⊥)
-Elsewhere q i (clear j k) = (j ≡ i) × (k ≡ q → ⊥)
-Elsewhere q i (deliver j s) = ⊥
-
--- One step stands in for the other: it is the same step, or both are made by one card for counters other than q.
--- Then amounts may differ too, and one may be a count and the other a clear.
-pub data Alike (q : ℕ) (s s′ : Step) : Type 0 where
-  same : s ≡ s′ → Alike q s s′
-  elsewhere : (i : ℕ) → Elsewhere q i s → Elsewhere q i s′ → Alike q s s′
-
-abbrev pub AllAlike : ℕ → List Step → List Step → Type 0
-AllAlike q [] [] = Unit {0}
-AllAlike q [] (s′ ∷ ss′) = ⊥
-AllAlike q (s ∷ ss) [] = ⊥
-AllAlike q (s ∷ ss) (s′ ∷ ss′) = Alike q s s′ × AllAlike q ss ss′
