@@ -13,7 +13,7 @@ use Rattle.protocol.specs.Cases.{by-le, by-place, by-test, and-left}
 use Rattle.protocol.specs.Ledger.{Ledger, empty-ledger, entered, fed, holds}
 use Rattle.protocol.specs.Chassis.{Message, increment, clearing, Chassis, fresh-chassis, done, enabled, stepped}
 use Rattle.protocol.specs.Alone as queues
-use Rattle.protocol.specs.Alone.{Turns, no-turns, belongs, outline, room}
+use Rattle.protocol.specs.Alone.{Turns, no-turns, belongs-by-turns, outline, room}
 use Rattle.protocol.specs.AloneLedgers.{same-holds, own-waits}
 use Rattle.protocol.specs.AloneRuns.{RunsBeside, fresh-beside, own-done, other-done, room-within}
 use Rattle.wire.specs.Message as form
@@ -137,24 +137,24 @@ module _ (r k L q : ℕ) (turns : Turns) (st : State) (ch : Chassis) (ls : ℕ �
       (same-size r q turns ch (ls q) ch′ (ls′ q) b counts i) e
 
   abbrev AcceptedToo : Step → Type 0
-  AcceptedToo s = due-answer r k L q s st ls ≡ 0 → belongs q (ledger-step s) turns ≡ true → due-answer r k L q s st′ ls′ ≡ 0
+  AcceptedToo s = due-answer r k L q s st ls ≡ 0 → belongs-by-turns q (ledger-step s) turns ≡ true → due-answer r k L q s st′ ls′ ≡ 0
 
   count-too : (i c : ℕ) → AcceptedToo (step-of-kind count-kind i c)
-  unfolding due-answer cards-right belongs
+  unfolding due-answer cards-right belongs-by-turns
   count-too i c e own =
       let f = passed (ltb i r && true) _ 6 e in
       let hi = ltb-true i r (and-left (ltb i r) true (f .0)) in
       rw (lt-ltb i r hi, eqb-true c q own) (makes-too true i hi (rw (eqb-true c q own) at (f .1)))
 
   clear-too : (i c : ℕ) → AcceptedToo (step-of-kind clear-kind i c)
-  unfolding due-answer cards-right belongs
+  unfolding due-answer cards-right belongs-by-turns
   clear-too i c e own =
       let f = passed (ltb i r && true) _ 6 e in
       let hi = ltb-true i r (and-left (ltb i r) true (f .0)) in
       rw (lt-ltb i r hi, eqb-true c q own) (makes-too false i hi (rw (eqb-true c q own) at (f .1)))
 
   deliver-too : (i s : ℕ) → AcceptedToo (step-of-kind deliver-kind i s)
-  unfolding due-answer cards-right belongs
+  unfolding due-answer cards-right belongs-by-turns
   deliver-too i s e own =
       let f = passed (ltb i r && (ltb s r && not (eqb i s))) _ 6 e in
       rw (f .0, b .ledgers .queues s i, own-waits q (turns s i) (ls q .queue s i) (b .ledgers .lined s i) own)
@@ -163,7 +163,7 @@ module _ (r k L q : ℕ) (turns : Turns) (st : State) (ch : Chassis) (ls : ℕ �
   unfolding due-answer
   none-too s x y z e own = absurd (some-number 11 (rw (ne-eqb (s .kind) count-kind x, ne-eqb (s .kind) clear-kind y, ne-eqb (s .kind) deliver-kind z) at e))
 
-  accepted-too : (s : Step) → step-on r k L s st .answer ≡ 0 → belongs q (ledger-step s) turns ≡ true → step-on r k L s st′ .answer ≡ 0
+  accepted-too : (s : Step) → step-on r k L s st .answer ≡ 0 → belongs-by-turns q (ledger-step s) turns ≡ true → step-on r k L s st′ .answer ≡ 0
   accepted-too s e own =
       step-answer r k L st′ ch′ ls′ h′ q s
       ∙ by-kind AcceptedToo count-too clear-too deliver-too none-too s (sym (step-answer r k L st ch ls h q s) ∙ e) own
@@ -222,7 +222,7 @@ module _ (r k L q : ℕ) where
   unfolding answers-of queues.own-steps
   from-step s ss rest turns st ch ls h st′ ch′ ls′ h′ b =
       by-place (step-on r k L s st .answer) 0
-      (λ e. by-test (belongs q (ledger-step s) turns)
+      (λ e. by-test (belongs-by-turns q (ledger-step s) turns)
       (λ own. rw (eq-eqb (step-on r k L s st .answer) 0 e, own)
       (both-more r k L q s ss _ st st′ (accepted-too r k L q turns st ch ls h st′ ch′ ls′ h′ b s e own)
       (rest _ _ _ _ (accepted-leaves r k L st ch ls h s e) _ _ _ (accepted-leaves r k L st′ ch′ ls′ h′ s (accepted-too r k L q turns st ch ls h st′ ch′ ls′ h′ b s e own))

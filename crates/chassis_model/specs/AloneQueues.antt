@@ -16,7 +16,7 @@ use Rattle.protocol.specs.Chassis.{Chassis, enabled, accepted, stepped}
 use Rattle.protocol.specs.Enabled.{deliver-enabled}
 use Rattle.protocol.specs.Theorem.{Ok}
 use Rattle.protocol.specs.Alone as queues
-use Rattle.protocol.specs.Alone.{Turns, turned, belongs}
+use Rattle.protocol.specs.Alone.{Turns, turned, belongs-by-turns}
 use Rattle.protocol.specs.AloneTurns.{TurnsAre, belongs-is, stepped-turns}
 use Rattle.wire.specs.Message.{message-at}
 use Rattle.replica_model.specs.Layout.{N-of}
@@ -45,7 +45,7 @@ module _ (r q : ℕ) (ch : Chassis) (l : Ledger) (ok : Ok r q ch l) (turns : Tur
 
   -- it is q's for the queues if it is of counter q
   picked : (counter : ℕ) → (number ≡ 0 → enabled r s ch ≡ true → counter ≡ queues.step-counter s ch)
-      → was-accepted number && eqb counter q ≡ was-accepted number && belongs q s turns
+      → was-accepted number && eqb counter q ≡ was-accepted number && belongs-by-turns q s turns
   picked counter is =
       by-place number 0
       (λ e. rw (eq-eqb number 0 e, is e (on-accepted e)) (sym (belongs-is r q ch l ok turns are s (on-accepted e))))

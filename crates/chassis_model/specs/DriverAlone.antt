@@ -15,7 +15,7 @@ use Rattle.protocol.specs.Ledger.{Ledger, empty-ledger, entered, fed}
 use Rattle.protocol.specs.Chassis.{Chassis, fresh-chassis, done, enabled, stepped}
 use Rattle.protocol.specs.Enabled.{deliver-enabled}
 use Rattle.protocol.specs.Alone as queues
-use Rattle.protocol.specs.Alone.{Turns, no-turns, belongs}
+use Rattle.protocol.specs.Alone.{Turns, no-turns, belongs-by-turns}
 use Rattle.protocol.specs.AloneRuns.{RunsBeside, fresh-beside, own-enabled, own-done, other-done}
 use Rattle.wire.specs.Message.{message-at}
 use Rattle.replica_model.specs.Layout.{N-of}
@@ -91,7 +91,7 @@ module _ (r k q : ℕ) (turns : Turns) (st : Cards) (ch : Chassis) (ls : ℕ →
       (λ l. absurd (some-number 0 (rw (le-ltb i r (omega arith)) at e)))
 
   take-again : (i : ℕ) (bytes : List ℕ) → GenuineCall (take i bytes) st → number-of (take i bytes) st ≡ 0
-      → belongs q (ledger.deliver i (message-at bytes .sender)) turns ≡ true → Again r (take i bytes) st′
+      → belongs-by-turns q (ledger.deliver i (message-at bytes .sender)) turns ≡ true → Again r (take i bytes) st′
   unfolding number-of
   take-again i bytes g ok own =
       let s = message-at bytes .sender in
@@ -115,8 +115,8 @@ module _ (r k q : ℕ) (turns : Turns) (st : Cards) (ch : Chassis) (ls : ℕ →
         step = ap (λ (u : ℕ). ledger.deliver i u) (is .1);
       }
 
-  again-accepted : (c : Call) → GenuineCall c st → number-of c st ≡ 0 → belongs q (call-step c) turns ≡ true → Again r c st′
-  unfolding belongs
+  again-accepted : (c : Call) → GenuineCall c st → number-of c st ≡ 0 → belongs-by-turns q (call-step c) turns ≡ true → Again r c st′
+  unfolding belongs-by-turns
   again-accepted (count i c out) g ok own = record { number = count-again i c out ok (eqb-true c q own); genuine = tt; step = refl }
   again-accepted (clear i c out) g ok own = record { number = clear-again i c out ok (eqb-true c q own); genuine = tt; step = refl }
   again-accepted (take i bytes) g ok own = take-again i bytes g ok own
@@ -167,7 +167,7 @@ module _ (r k q : ℕ) where
   unfolding numbers queues.own-steps
   from-call c cs rest turns st ch ls m (g, gs) st′ ch′ ls′ m′ b =
       by-place (number-of c st) 0
-      (λ e. by-test (belongs q (call-step c) turns)
+      (λ e. by-test (belongs-by-turns q (call-step c) turns)
       (λ own.
       let a = again-accepted r k q turns st ch ls m st′ ch′ ls′ m′ b c g e own in
       let next : DriverMatches r k (called (again r c st′) st′) (done r (call-step c) ch′) (λ q. entered r q (call-step c) (ls′ q))

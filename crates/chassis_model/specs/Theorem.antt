@@ -108,4 +108,3 @@ module _ (r k L : ℕ) (before : List Step) (s : Step) (after : List Step) (word
 
   pub run-answers : run-answer (getD (run-on r k L (before ++ s ∷ after) words logs answers .answers) (length before) 0) ≡ true
   run-answers = rw (step-answers 0) (due-is-answer r k L 0 s _ _)
-

@@ -1,6 +1,6 @@
 -- DEFINITIONS. One counter's own steps: what is left of a list of steps, and of what its cards sent, if no other counter had been there.
 -- Which counter an accepted deliver step belongs to is known from the steps and which of them were accepted, since links keep the order made:
--- each link has a queue of counter numbers, fed as the ledger's queues are. (A ledger's item does not tell: an empty clear of q says `nothing` too.)
+-- each link has a queue of counter numbers, fed as the ledger's queues are. (The ledger's own queues say it too, `Ledger.belongs`; these need no ledger.)
 use Prim.Native.Nat.{ℕ, _+_}
 use mathlib.Core.Bool.{Bool, false, cond, _&&_}
 use mathlib.Core.List.{List, [], _∷_, _++_, map, tail}
@@ -27,22 +27,22 @@ turned (clear i k) turns = put i (λ n. turns i n ++ k ∷ []) turns
 turned (deliver i s) turns = put s (put i (tail (turns s i)) (turns s)) turns
 
 -- "and the step belongs to the counter of the one whose turn it is."
-unfoldable pub turn-is : ℕ → List ℕ → Bool
-turn-is q [] = false
-turn-is q (k ∷ ks) = eqb k q
+unfoldable pub turn-of : ℕ → List ℕ → Bool
+turn-of q [] = false
+turn-of q (k ∷ ks) = eqb k q
 
 -- does an accepted step belong to counter q?
-unfoldable pub belongs : ℕ → Step → Turns → Bool
-belongs q (count i k w) turns = eqb k q
-belongs q (clear i k) turns = eqb k q
-belongs q (deliver i s) turns = turn-is q (turns s i)
+unfoldable pub belongs-by-turns : ℕ → Step → Turns → Bool
+belongs-by-turns q (count i k w) turns = eqb k q
+belongs-by-turns q (clear i k) turns = eqb k q
+belongs-by-turns q (deliver i s) turns = turn-of q (turns s i)
 
 -- q's own steps of a list, told which of them were accepted: those that were and belong to q, in order. `step` says which step an element of the list is.
 unfoldable pub own-steps {ℓ} : {A : Type ℓ} → (A → Step) → ℕ → List A → List Bool → Turns → List A
 own-steps step q [] fs turns = []
 own-steps step q (x ∷ xs) [] turns = []
 own-steps step q (x ∷ xs) (a ∷ fs) turns =
-    cond (a && belongs q (step x) turns) (x ∷ []) [] ++ own-steps step q xs fs (cond a (turned (step x) turns) turns)
+    cond (a && belongs-by-turns q (step x) turns) (x ∷ []) [] ++ own-steps step q xs fs (cond a (turned (step x) turns) turns)
 
 -- ---- the list with every other counter left out
 

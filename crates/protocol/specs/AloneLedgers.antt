@@ -8,9 +8,11 @@ use lib.Dec.{eqb}
 use Rattle.protocol.specs.Cases.{by-place, by-test}
 use Rattle.protocol.specs.Tables.{put, put-same, put-other, put-at, put-same-row, put-other-row}
 use Rattle.protocol.specs.Names.{Name, join}
-use Rattle.protocol.specs.Ledger.{Step, count, clear, deliver, Item, nothing, Ledger, count-item, holds, clear-names, clear-item, next-item, rest-items, some-item, applied, handed, sent, made, entered, fed, kept, ledger-value, empty-ledger, ledger-holders}
-use Rattle.protocol.specs.Alone.{Turns, no-turns, turned, turn-is, belongs, own-steps}
+use Rattle.protocol.specs.Ledger.{Step, count, clear, deliver, Item, nothing, Ledger, count-item, clear-names, clear-item, next-item, rest-items, some-item, applied, handed, sent, made, entered, fed, kept, empty-ledger}
+use Rattle.protocol.specs.Alone.{Turns, no-turns, turned, turn-of, belongs-by-turns, own-steps}
 use Rattle.protocol.specs.Runs.{all-accepted}
+use Rattle.protocol.specs.LedgerLaws.{same-sets, none-applied}
+pub use Rattle.protocol.specs.LedgerLaws.{SameSets, same-holds, same-value, same-holders}
 
 -- ---- a link: the counters of what waits there, and the items
 
@@ -25,7 +27,7 @@ abbrev pub Lined : ℕ → List ℕ → List Item → Type 0
 Lined q [] [] = Unit {0}
 Lined q [] (it ∷ its) = ⊥
 Lined q (k ∷ ks) [] = ⊥
-Lined q (k ∷ ks) (it ∷ its) = (eqb k q ≡ false → it ≡ nothing) × Lined q ks its
+Lined q (k ∷ ks) (it ∷ its) = (eqb k q ≡ false → it ≡ nothing k) × Lined q ks its
 
 module _ (q : ℕ) where
   -- one more is made
@@ -39,7 +41,7 @@ module _ (q : ℕ) where
       ap (λ (rest : List Item). cond (eqb k′ q) (it′ ∷ []) [] ++ rest) (items-more ks its k it (h .1))
       ∙ sym (append-assoc (cond (eqb k′ q) (it′ ∷ []) []) (items-of q ks its) (cond (eqb k q) (it ∷ []) []))
 
-  lined-more : (ks : List ℕ) (its : List Item) (k : ℕ) (it : Item) → Lined q ks its → (eqb k q ≡ false → it ≡ nothing) → Lined q (ks ++ k ∷ []) (its ++ it ∷ [])
+  lined-more : (ks : List ℕ) (its : List Item) (k : ℕ) (it : Item) → Lined q ks its → (eqb k q ≡ false → it ≡ nothing k) → Lined q (ks ++ k ∷ []) (its ++ it ∷ [])
   lined-more [] [] k it h n = (n, tt)
   lined-more [] (it′ ∷ its) k it h n = absurd h
   lined-more (k′ ∷ ks) [] k it h n = absurd h
@@ -54,43 +56,39 @@ module _ (q : ℕ) where
   lined-rest (k ∷ ks) (it ∷ its) h = h .1
 
   -- it is q's
-  pub own-waits : (ks : List ℕ) (its : List Item) → Lined q ks its → turn-is q ks ≡ true → some-item (items-of q ks its) ≡ true
-  unfolding items-of turn-is some-item
+  pub own-waits : (ks : List ℕ) (its : List Item) → Lined q ks its → turn-of q ks ≡ true → some-item (items-of q ks its) ≡ true
+  unfolding items-of turn-of some-item
   own-waits [] its h e = e
   own-waits (k ∷ ks) [] h e = absurd h
   own-waits (k ∷ ks) (it ∷ its) h e = rw e
 
-  own-next : (ks : List ℕ) (its : List Item) → Lined q ks its → turn-is q ks ≡ true → next-item (items-of q ks its) ≡ next-item its
-  unfolding items-of turn-is next-item
+  own-next : (ks : List ℕ) (its : List Item) → Lined q ks its → turn-of q ks ≡ true → next-item (items-of q ks its) ≡ next-item its
+  unfolding items-of turn-of next-item
   own-next [] its h e = cc
   own-next (k ∷ ks) [] h e = absurd h
   own-next (k ∷ ks) (it ∷ its) h e = rw e
 
-  own-rest : (ks : List ℕ) (its : List Item) → Lined q ks its → turn-is q ks ≡ true → rest-items (items-of q ks its) ≡ items-of q (tail ks) (rest-items its)
-  unfolding items-of turn-is rest-items
+  own-rest : (ks : List ℕ) (its : List Item) → Lined q ks its → turn-of q ks ≡ true → rest-items (items-of q ks its) ≡ items-of q (tail ks) (rest-items its)
+  unfolding items-of turn-of rest-items
   own-rest [] its h e = refl
   own-rest (k ∷ ks) [] h e = absurd h
   own-rest (k ∷ ks) (it ∷ its) h e = rw e
 
   -- it is another counter's, or there is none
-  other-next : (ks : List ℕ) (its : List Item) → Lined q ks its → turn-is q ks ≡ false → next-item its ≡ nothing
-  unfolding turn-is next-item
+  other-next : (ks : List ℕ) (its : List Item) → Lined q ks its → turn-of q ks ≡ false → next-item its ≡ nothing (next-item its .counter)
+  unfolding turn-of next-item
   other-next [] [] h e = refl
   other-next [] (it ∷ its) h e = absurd h
   other-next (k ∷ ks) [] h e = absurd h
-  other-next (k ∷ ks) (it ∷ its) h e = h .0 e
+  other-next (k ∷ ks) (it ∷ its) h e = rw (h .0 e)
 
-  other-rest : (ks : List ℕ) (its : List Item) → Lined q ks its → turn-is q ks ≡ false → items-of q ks its ≡ items-of q (tail ks) (rest-items its)
-  unfolding items-of turn-is rest-items
+  other-rest : (ks : List ℕ) (its : List Item) → Lined q ks its → turn-of q ks ≡ false → items-of q ks its ≡ items-of q (tail ks) (rest-items its)
+  unfolding items-of turn-of rest-items
   other-rest [] its h e = refl
   other-rest (k ∷ ks) [] h e = absurd h
   other-rest (k ∷ ks) (it ∷ its) h e = rw e
 
 -- ---- the two ledgers
-
-pub record SameSets (l l′ : Ledger) : Type 0 where
-  pub received : (i : ℕ) → l′ .received i ≡ l .received i
-  pub cancelled : (i : ℕ) → l′ .cancelled i ≡ l .cancelled i
 
 pub record Beside (q : ℕ) (turns : Turns) (l l′ : Ledger) : Type 0 where
   pub sets : SameSets l l′
@@ -99,43 +97,26 @@ pub record Beside (q : ℕ) (turns : Turns) (l l′ : Ledger) : Type 0 where
 
 pub beside-empty : (q : ℕ) → Beside q no-turns empty-ledger empty-ledger
 unfolding items-of
-beside-empty q = record { sets = record { received = λ i. refl; cancelled = λ i. refl }; lined = λ s i. tt; queues = λ s i. refl }
+beside-empty q = record { sets = same-sets empty-ledger; lined = λ s i. tt; queues = λ s i. refl }
 
--- what is made of the sets is the same
+-- what is made of the same sets is the same
 module _ (l l′ : Ledger) (h : SameSets l l′) where
-  pub same-holds : (i j : ℕ) → holds i j l′ ≡ holds i j l
-  unfolding holds
-  same-holds i j = rw (h .received i, h .cancelled i)
-
-  pub same-value : (i : ℕ) → ledger-value i l′ ≡ ledger-value i l
-  unfolding ledger-value
-  same-value i = rw (h .received i, h .cancelled i)
-
-  pub same-holders : (r i : ℕ) → ledger-holders r i l′ ≡ ledger-holders r i l
-  unfolding ledger-holders holds
-  same-holders r i = simp (h .received i, h .cancelled i)
-
-  same-count : (i w : ℕ) → count-item i w l′ ≡ count-item i w l
+  same-count : (q i w : ℕ) → count-item q i w l′ ≡ count-item q i w l
   unfolding count-item
-  same-count i w = rw (h .received i, h .cancelled i)
+  same-count q i w = rw (h .received i, h .cancelled i)
 
   same-clear-names : (r i : ℕ) → clear-names r i l′ ≡ clear-names r i l
   unfolding clear-names
   same-clear-names zero i = refl
-  same-clear-names (suc r) i = rw (same-clear-names r i, same-holds i r, h .received i, h .cancelled i)
+  same-clear-names (suc r) i = rw (same-clear-names r i, same-holds l l′ h i r, h .received i, h .cancelled i)
 
-  same-clear : (r i : ℕ) → clear-item r i l′ ≡ clear-item r i l
-  same-clear r i = ap (λ (ns : List Name). record { adds = []; cancels = ns }) (same-clear-names r i)
+  same-clear : (r q i : ℕ) → clear-item r q i l′ ≡ clear-item r q i l
+  same-clear r q i = ap (λ (ns : List Name). record { counter = q; adds = []; cancels = ns }) (same-clear-names r i)
 
 -- ---- sets, when a card applies an item
 
--- the same names join; none do
 same-joined : (i : ℕ) (ns : List Name) (f g : ℕ → List Name) → ((j : ℕ) → g j ≡ f j) → (j : ℕ) → put i (join ns (g i)) g j ≡ put i (join ns (f i)) f j
 same-joined i ns f g h j = by-place j i (λ e. simp put-at (ap (join ns) (h i))) (λ d. simp put-other (h j))
-
-none-joined : (i : ℕ) (f g : ℕ → List Name) → ((j : ℕ) → g j ≡ f j) → (j : ℕ) → g j ≡ put i (join [] (f i)) f j
-unfolding join
-none-joined i f g h j = by-place j i (λ e. rw (put-at i (f i) f j e, ← e) (h j)) (λ d. rw put-other (h j))
 
 module _ (l l′ : Ledger) (h : SameSets l l′) (i : ℕ) where
   same-applied : (it : Item) (queue queue′ : ℕ → ℕ → List Item)
@@ -147,17 +128,10 @@ module _ (l l′ : Ledger) (h : SameSets l l′) (i : ℕ) where
     cancelled = same-joined i (it .cancels) (l .cancelled) (l′ .cancelled) (h .cancelled);
   }
 
-  none-applied : (queue : ℕ → ℕ → List Item) → SameSets (applied i nothing (record { received = l .received; cancelled = l .cancelled; queue = queue })) l′
-  unfolding applied
-  none-applied queue = record {
-    received = none-joined i (l .received) (l′ .received) (h .received);
-    cancelled = none-joined i (l .cancelled) (l′ .cancelled) (h .cancelled);
-  }
-
 -- ---- a message is made
 
 module _ (q : ℕ) (turns : Turns) (l l′ : Ledger) (h : Beside q turns l l′) (i k : ℕ) (it : Item) where
-  lined-made : (eqb k q ≡ false → it ≡ nothing)
+  lined-made : (eqb k q ≡ false → it ≡ nothing k)
       → (s j : ℕ) → Lined q (put i (λ n. turns i n ++ k ∷ []) turns s j) (put i (λ n. l .queue i n ++ it ∷ []) (l .queue) s j)
   lined-made n s j =
       by-place s i
@@ -177,10 +151,10 @@ module _ (q : ℕ) (turns : Turns) (l l′ : Ledger) (h : Beside q turns l l′)
   }
 
   -- of another counter
-  other-made : eqb k q ≡ false → it ≡ nothing → Beside q (put i (λ n. turns i n ++ k ∷ []) turns) (made i it l) l′
+  other-made : eqb k q ≡ false → it ≡ nothing k → Beside q (put i (λ n. turns i n ++ k ∷ []) turns) (made i it l) l′
   unfolding made applied sent
   other-made e n = record {
-    sets = rw n (none-applied l l′ (h .sets) i _);
+    sets = rw n (none-applied l l′ (h .sets) i k _);
     lined = lined-made (λ f. n);
     queues = λ s j.
         by-place s i
@@ -199,7 +173,7 @@ module _ (q : ℕ) (turns : Turns) (l l′ : Ledger) (h : Beside q turns l l′)
       (λ d. simp put-other-row (h .lined o j))
 
   -- of counter q
-  own-handed : turn-is q (turns s i) ≡ true → Beside q (put s (put i (tail (turns s i)) (turns s)) turns) (handed i s l) (handed i s l′)
+  own-handed : turn-of q (turns s i) ≡ true → Beside q (put s (put i (tail (turns s i)) (turns s)) turns) (handed i s l) (handed i s l′)
   unfolding handed applied
   own-handed e = record {
     sets = rw (h .queues s i, own-next q (turns s i) (l .queue s i) (h .lined s i) e) (same-applied l l′ (h .sets) i (next-item (l .queue s i)) _ _);
@@ -214,10 +188,10 @@ module _ (q : ℕ) (turns : Turns) (l l′ : Ledger) (h : Beside q turns l l′)
   }
 
   -- of another, or nothing
-  other-handed : turn-is q (turns s i) ≡ false → Beside q (put s (put i (tail (turns s i)) (turns s)) turns) (handed i s l) l′
+  other-handed : turn-of q (turns s i) ≡ false → Beside q (put s (put i (tail (turns s i)) (turns s)) turns) (handed i s l) l′
   unfolding handed applied
   other-handed e = record {
-    sets = rw (other-next q (turns s i) (l .queue s i) (h .lined s i) e) (none-applied l l′ (h .sets) i _);
+    sets = rw (other-next q (turns s i) (l .queue s i) (h .lined s i) e) (none-applied l l′ (h .sets) i (next-item (l .queue s i) .counter) _);
     lined = lined-handed;
     queues = λ o j.
         by-place o s
@@ -231,16 +205,16 @@ module _ (q : ℕ) (turns : Turns) (l l′ : Ledger) (h : Beside q turns l l′)
 -- ---- an accepted step, and a list of steps
 
 module _ (r q : ℕ) (turns : Turns) (l l′ : Ledger) (h : Beside q turns l l′) where
-  pub own-entered : (s : Step) → belongs q s turns ≡ true → Beside q (turned s turns) (entered r q s l) (entered r q s l′)
-  unfolding belongs turned entered
-  own-entered (count i k w) e = rw (e, same-count l l′ (h .sets) i w) (own-made q turns l l′ h i k (count-item i w l) e)
-  own-entered (clear i k) e = rw (e, same-clear l l′ (h .sets) r i) (own-made q turns l l′ h i k (clear-item r i l) e)
+  pub own-entered : (s : Step) → belongs-by-turns q s turns ≡ true → Beside q (turned s turns) (entered r q s l) (entered r q s l′)
+  unfolding belongs-by-turns turned entered
+  own-entered (count i k w) e = rw (e, same-count l l′ (h .sets) q i w) (own-made q turns l l′ h i k (count-item q i w l) e)
+  own-entered (clear i k) e = rw (e, same-clear l l′ (h .sets) r q i) (own-made q turns l l′ h i k (clear-item r q i l) e)
   own-entered (deliver i s) e = own-handed q turns l l′ h i s e
 
-  pub other-entered : (s : Step) → belongs q s turns ≡ false → Beside q (turned s turns) (entered r q s l) l′
-  unfolding belongs turned entered
-  other-entered (count i k w) e = rw e (other-made q turns l l′ h i k nothing e refl)
-  other-entered (clear i k) e = rw e (other-made q turns l l′ h i k nothing e refl)
+  pub other-entered : (s : Step) → belongs-by-turns q s turns ≡ false → Beside q (turned s turns) (entered r q s l) l′
+  unfolding belongs-by-turns turned entered
+  other-entered (count i k w) e = rw e (other-made q turns l l′ h i k (nothing k) e refl)
+  other-entered (clear i k) e = rw e (other-made q turns l l′ h i k (nothing k) e refl)
   other-entered (deliver i s) e = other-handed q turns l l′ h i s e
 
 -- The ledger of q, told any flags, and the one that is fed q's own steps, all of them accepted.
@@ -251,7 +225,7 @@ own-kept step r q [] fs turns l l′ h = h .sets
 own-kept step r q (x ∷ xs) [] turns l l′ h = h .sets
 own-kept step r q (x ∷ xs) (false ∷ fs) turns l l′ h = own-kept step r q xs fs turns l l′ h
 own-kept step r q (x ∷ xs) (true ∷ fs) turns l l′ h =
-    by-test (belongs q (step x) turns)
+    by-test (belongs-by-turns q (step x) turns)
     (λ e. rw e (own-kept step r q xs fs (turned (step x) turns) (entered r q (step x) l) (entered r q (step x) l′) (own-entered r q turns l l′ h (step x) e)))
     (λ e. rw e (own-kept step r q xs fs (turned (step x) turns) (entered r q (step x) l) l′ (other-entered r q turns l l′ h (step x) e)))
 

@@ -18,7 +18,7 @@ use Rattle.protocol.specs.Steps.{Ok}
 use Rattle.protocol.specs.Theorem.{fresh-ok, value-is, count-counter, clear-counter, done-ok}
 use Rattle.protocol.specs.Links.{deliver-enabled-is}
 use Rattle.protocol.specs.Runs.{step-of, all-accepted}
-use Rattle.protocol.specs.Alone.{Turns, no-turns, turned, turn-is, belongs, own-steps, messages-of, outline, entry-outline, room}
+use Rattle.protocol.specs.Alone.{Turns, no-turns, turned, turn-of, belongs-by-turns, own-steps, messages-of, outline, entry-outline, room}
 use Rattle.protocol.specs.AloneLedgers.{Beside, beside-empty, same-holds, same-value, own-waits, own-entered, other-entered}
 
 -- ---- messages
@@ -81,7 +81,7 @@ module _ (r q : ℕ) (turns : Turns) (st : Chassis) (l : Ledger) (st′ : Chassi
   same-read-holders i = sum-cong r _ _ (λ j below. ap (λ (t : Bool). cond t (2 ^ j) 0) (same-present i j))
 
   -- a step that belongs to q is enabled here and there
-  link-enabled : (i s : ℕ) → turn-is q (turns s i) ≡ true → enabled r (deliver i s) st ≡ true → enabled r (deliver i s) st′ ≡ true
+  link-enabled : (i s : ℕ) → turn-of q (turns s i) ≡ true → enabled r (deliver i s) st ≡ true → enabled r (deliver i s) st′ ≡ true
   link-enabled i s e on =
       let on₁ : ltb i r && (ltb s r && (not (eqb i s) && link-waits i s l)) ≡ true = sym (deliver-enabled-is r q st l (h .ok) i s) ∙ on in
       let on₂ = and-right (ltb i r) _ on₁ in
@@ -92,8 +92,8 @@ module _ (r q : ℕ) (turns : Turns) (st : Chassis) (l : Ledger) (st′ : Chassi
       (and-yes (not (eqb i s)) _ (and-left (not (eqb i s)) _ on₃)
       (rw (h .ledgers .queues s i) (own-waits q (turns s i) (l .queue s i) (h .ledgers .lined s i) e))))
 
-  pub own-enabled : (s : Step) → belongs q s turns ≡ true → enabled r s st ≡ true → enabled r s st′ ≡ true
-  unfolding belongs enabled
+  pub own-enabled : (s : Step) → belongs-by-turns q s turns ≡ true → enabled r s st ≡ true → enabled r s st′ ≡ true
+  unfolding belongs-by-turns enabled
   own-enabled (count i k w) e on = on
   own-enabled (clear i k) e on = on
   own-enabled (deliver i s) e on = link-enabled i s e on
@@ -122,20 +122,20 @@ module _ (r q : ℕ) (turns : Turns) (st : Chassis) (l : Ledger) (st′ : Chassi
       (λ f. rw (put-at i (st .log i ++ m ∷ []) (st .log) j f, messages-append q (st .log i) m, c, append-nil (messages-of q (st .log i)), f) (h .logs i))
       (λ d. rw put-other (h .logs j))
 
-  logs-done : (s : Step) → belongs q s turns ≡ true → (j : ℕ) → map outline (done r s st′ .log j) ≡ map outline (messages-of q (done r s st .log j))
-  unfolding belongs done issued delivered
+  logs-done : (s : Step) → belongs-by-turns q s turns ≡ true → (j : ℕ) → map outline (done r s st′ .log j) ≡ map outline (messages-of q (done r s st .log j))
+  unfolding belongs-by-turns done issued delivered
   logs-done (count i k w) e j = logs-own i _ _ (rw (eqb-true k q e) (count-outline q (st .replica i) (st′ .replica i) (same-present i) i w)) (rw (count-counter i k w (st .replica i)) e) j
   logs-done (clear i k) e j = logs-own i _ _ (rw (eqb-true k q e) (clear-outline q (st .replica i) (st′ .replica i) (same-present i) r)) (rw (clear-counter r k (st .replica i)) e) j
   logs-done (deliver i s) e j = h .logs j
 
-  logs-left : (s : Step) → belongs q s turns ≡ false → (j : ℕ) → map outline (st′ .log j) ≡ map outline (messages-of q (done r s st .log j))
-  unfolding belongs done issued delivered
+  logs-left : (s : Step) → belongs-by-turns q s turns ≡ false → (j : ℕ) → map outline (st′ .log j) ≡ map outline (messages-of q (done r s st .log j))
+  unfolding belongs-by-turns done issued delivered
   logs-left (count i k w) e j = logs-other i _ (rw (count-counter i k w (st .replica i)) e) j
   logs-left (clear i k) e j = logs-other i _ (rw (clear-counter r k (st .replica i)) e) j
   logs-left (deliver i s) e j = h .logs j
 
   -- an accepted step
-  pub own-done : (s : Step) → belongs q s turns ≡ true → enabled r s st ≡ true
+  pub own-done : (s : Step) → belongs-by-turns q s turns ≡ true → enabled r s st ≡ true
       → RunsBeside r q (turned s turns) (done r s st) (entered r q s l) (done r s st′) (entered r q s l′)
   own-done s e on = record {
     ok = done-ok r q st l (h .ok) s on;
@@ -144,7 +144,7 @@ module _ (r q : ℕ) (turns : Turns) (st : Chassis) (l : Ledger) (st′ : Chassi
     logs = logs-done s e;
   }
 
-  pub other-done : (s : Step) → belongs q s turns ≡ false → enabled r s st ≡ true → RunsBeside r q (turned s turns) (done r s st) (entered r q s l) st′ l′
+  pub other-done : (s : Step) → belongs-by-turns q s turns ≡ false → enabled r s st ≡ true → RunsBeside r q (turned s turns) (done r s st) (entered r q s l) st′ l′
   other-done s e on = record {
     ok = done-ok r q st l (h .ok) s on;
     ok′ = h .ok′;
@@ -192,7 +192,7 @@ own-step r q o os rest turns st l st′ l′ h =
     (λ a.
     let will = and-left (o .willing) (enabled r (o .step) st) a in
     let on = and-right (o .willing) (enabled r (o .step) st) a in
-    by-test (belongs q (o .step) turns)
+    by-test (belongs-by-turns q (o .step) turns)
     (λ e. rw (a, e)
     (both-more r q o os st (done r (o .step) st) _ st′ (rw a) (and-yes (o .willing) _ will (own-enabled r q turns st l st′ l′ h (o .step) e on))
     (rest _ _ _ _ _ (own-done r q turns st l st′ l′ h (o .step) e on))))

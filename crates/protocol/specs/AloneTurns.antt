@@ -1,5 +1,5 @@
 -- LAWS. The queues of counter numbers are those of the messages that wait (`TurnsAre`). So q's own steps of a list are those that the chassis accepts
--- and that are of counter q there.
+-- and that are of counter q there; and a step belongs to q in q's ledger exactly if it is of q there (`belongs-to`).
 use Prim.Native.Nat.{ℕ, suc, _≤_, _<_}
 use mathlib.Core.Path.{_≡_, refl, sym, ap, ap₂, _∙_}
 use mathlib.Core.Bool.{Bool, true, cond, _&&_}
@@ -9,14 +9,14 @@ use lib.ListN.{length, getD, drop}
 use lib.Seq.{drop-cons, drop-append-le}
 use Rattle.protocol.specs.Cases.{by-place, by-test, and-right}
 use Rattle.protocol.specs.Tables.{put, put-same, put-other, put-same-row, put-other-row}
-use Rattle.protocol.specs.Ledger.{Step, count, clear, deliver, Ledger, empty-ledger}
+use Rattle.protocol.specs.Ledger.{Step, count, clear, deliver, Item, Ledger, empty-ledger, turn-is, belongs}
 use Rattle.protocol.specs.Chassis.{Message, no-message, count-message, clear-message, Chassis, fresh-chassis, issued, delivered, done, enabled, Offer, accepted, stepped, run, answers, counter-of}
 use Rattle.protocol.specs.Steps.{Ok, taken-N}
 use Rattle.protocol.specs.Theorem.{fresh-ok, step-ok}
-use Rattle.protocol.specs.Links.{own-N-is}
+use Rattle.protocol.specs.Links.{own-N-is, link-counters}
 use Rattle.protocol.specs.Refusals.{received-within}
 use Rattle.protocol.specs.Runs.{step-of}
-use Rattle.protocol.specs.Alone.{Turns, no-turns, turned, turn-is, belongs, own-steps, alone, step-counter, accepted-of}
+use Rattle.protocol.specs.Alone.{Turns, no-turns, turned, turn-of, belongs-by-turns, own-steps, alone, step-counter, accepted-of}
 use Rattle.protocol.specs.Enabled.{deliver-enabled}
 
 abbrev pub TurnsAre : Turns → Chassis → Type 0
@@ -64,8 +64,8 @@ module _ (r q : ℕ) (st : Chassis) (l : Ledger) (ok : Ok r q st l) (turns : Tur
   done-turns (clear i c) on = issued-turns i _
   done-turns (deliver i s) on = delivered-turns i s (deliver-enabled r i s st on .apart) (handed-made i s on)
 
-  pub belongs-is : (s : Step) → enabled r s st ≡ true → belongs q s turns ≡ eqb (step-counter s st) q
-  unfolding belongs step-counter turn-is
+  pub belongs-is : (s : Step) → enabled r s st ≡ true → belongs-by-turns q s turns ≡ eqb (step-counter s st) q
+  unfolding belongs-by-turns step-counter turn-of
   belongs-is (count i c w) on = refl
   belongs-is (clear i c) on = refl
   belongs-is (deliver i s) on = rw (next-turn i s (deliver-enabled r i s st on .apart) (handed-made i s on))
@@ -78,11 +78,31 @@ module _ (r q : ℕ) (st : Chassis) (l : Ledger) (ok : Ok r q st l) (turns : Tur
       (λ a. rw a (done-turns (o .step) (and-right (o .willing) (enabled r (o .step) st) a)))
       (λ a. rw a k)
 
-  own-is : (o : Offer) → accepted r o st && belongs q (o .step) turns ≡ accepted r o st && eqb (step-counter (o .step) st) q
+  own-is : (o : Offer) → accepted r o st && belongs-by-turns q (o .step) turns ≡ accepted r o st && eqb (step-counter (o .step) st) q
   own-is o =
       by-test (accepted r o st)
       (λ a. rw a (belongs-is (o .step) (and-right (o .willing) (enabled r (o .step) st) a)))
       (λ a. rw a)
+
+-- ---- the ledger's own queues
+
+-- the counters of what its links have still to hand over
+abbrev ledger-turns : Ledger → Turns
+ledger-turns l s i = map (λ it. it .counter) (l .queue s i)
+
+turn-is-of : (q : ℕ) (its : List Item) → turn-is q its ≡ turn-of q (map (λ it. it .counter) its)
+unfolding turn-is turn-of
+turn-is-of q [] = refl
+turn-is-of q (it ∷ its) = refl
+
+pub belongs-to : (r q : ℕ) (st : Chassis) (l : Ledger) → Ok r q st l → (s : Step) → enabled r s st ≡ true → belongs q s l ≡ eqb (step-counter s st) q
+unfolding belongs belongs-by-turns
+belongs-to r q st l ok s on = by-its-turns s ∙ belongs-is r q st l ok (ledger-turns l) (λ o i d. link-counters r q st l ok i o d) s on
+  where
+    by-its-turns : (s : Step) → belongs q s l ≡ belongs-by-turns q s (ledger-turns l)
+    by-its-turns (count i k w) = refl
+    by-its-turns (clear i k) = refl
+    by-its-turns (deliver i s) = turn-is-of q (l .queue s i)
 
 -- ---- a list of steps
 

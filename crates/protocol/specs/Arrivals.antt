@@ -8,8 +8,9 @@ use mathlib.Core.List.{List, [], _∷_, _++_, append-assoc, append-nil}
 use Rattle.protocol.specs.Cases.{by-place, or-left, or-right, or-cases}
 use Rattle.protocol.specs.Tables.{put, put-same, put-other, put-at, put-same-row, put-other-row}
 use Rattle.protocol.specs.Names.{Name, has, join}
-use Rattle.protocol.specs.Ledger.{Step, count, clear, deliver, Item, nothing, Ledger, empty-ledger, next-item, rest-items, applied, handed, sent, made, entered, fed, kept}
+use Rattle.protocol.specs.Ledger.{Step, count, clear, deliver, Item, nothing, Ledger, empty-ledger, next-item, rest-items, applied, handed, sent, made, entered, kept}
 use Rattle.protocol.specs.Joins.{from-join, has-join-left, has-join-right}
+use Rattle.protocol.specs.LedgerLaws.{kept-keeps}
 
 -- ---- what items say
 
@@ -147,7 +148,7 @@ unfolding first-items rest-items
 first-and-rest [] = refl
 first-and-rest (it ∷ its) = refl
 
-says-first : (f : Item → List Name) → f nothing ≡ [] → (its : List Item) (n : Name) → said f (first-items its) n ≡ has (f (next-item its)) n
+says-first : (f : Item → List Name) → f (nothing 0) ≡ [] → (its : List Item) (n : Name) → said f (first-items its) n ≡ has (f (next-item its)) n
 unfolding first-items next-item said has
 says-first f e [] n = rw e
 says-first f e (it ∷ its) n = says-one f it n
@@ -170,7 +171,7 @@ handed-arrivals i s l h = record {
   cancelled-is = λ k. set-of (λ it. it .cancels) refl (l .cancelled) (h .cancelled-is) k;
 }
   where
-    set-of : (f : Item → List Name) → f nothing ≡ [] → (sets : ℕ → List Name) → ((k : ℕ) → Union f (h .come k) (h .made-by k) (sets k))
+    set-of : (f : Item → List Name) → f (nothing 0) ≡ [] → (sets : ℕ → List Name) → ((k : ℕ) → Union f (h .come k) (h .made-by k) (sets k))
         → (k : ℕ) → Union f (put i (put s (h .come i s ++ first-items (l .queue s i)) (h .come i)) (h .come) k) (h .made-by k)
         (put i (join (f (next-item (l .queue s i))) (sets i)) sets k)
     set-of f none sets u k =
@@ -181,21 +182,14 @@ handed-arrivals i s l h = record {
 
 -- ---- every ledger that was fed
 
-fed-arrivals : (r q : ℕ) (st : Step) (a : Bool) (l : Ledger) → Arrivals l → Arrivals (fed r q st a l)
-unfolding fed entered
-fed-arrivals r q st false l h = h
-fed-arrivals r q (count i k w) true l h = made-arrivals i _ l h
-fed-arrivals r q (clear i k) true l h = made-arrivals i _ l h
-fed-arrivals r q (deliver i s) true l h = handed-arrivals i s l h
-
-kept-from : (r q : ℕ) (ss : List Step) (fs : List Bool) (l : Ledger) → Arrivals l → Arrivals (kept r q ss fs l)
-unfolding kept
-kept-from r q [] fs l h = h
-kept-from r q (s ∷ ss) [] l h = h
-kept-from r q (s ∷ ss) (a ∷ fs) l h = kept-from r q ss fs (fed r q s a l) (fed-arrivals r q s a l h)
+entered-arrivals : (r q : ℕ) (s : Step) (l : Ledger) → Arrivals l → Arrivals (entered r q s l)
+unfolding entered
+entered-arrivals r q (count i k w) l h = made-arrivals i _ l h
+entered-arrivals r q (clear i k) l h = made-arrivals i _ l h
+entered-arrivals r q (deliver i s) l h = handed-arrivals i s l h
 
 pub kept-arrivals : (r q : ℕ) (ss : List Step) (fs : List Bool) → Arrivals (kept r q ss fs empty-ledger)
-kept-arrivals r q ss fs = kept-from r q ss fs empty-ledger no-arrivals
+kept-arrivals r q ss fs = kept-keeps r q Arrivals (entered-arrivals r q) ss fs empty-ledger no-arrivals
 
 -- ---- cards to which nothing more has to come
 

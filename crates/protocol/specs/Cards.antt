@@ -37,11 +37,11 @@ unfoldable pub target-names : List Target → List Name
 target-names [] = []
 target-names (t ∷ ts) = names-up-to (t .card) (t .mark .names) ++ target-names ts
 
--- of card s's note, where k is the mark of s's notes before it
-abbrev pub item : ℕ → Note → Mark → Item
-item s (other m) k = nothing
-item s (inc w p start) k = record { adds = names-after s (k .names) w; cancels = cond start (names-up-to s (k .names)) [] }
-item s (clr ts) k = record { adds = []; cancels = target-names ts }
+-- to the ledger of q, of card s's note, where k is the mark of s's notes before it
+abbrev pub item : ℕ → ℕ → Note → Mark → Item
+item q s (other m) k = nothing (counter-of m)
+item q s (inc w p start) k = record { counter = q; adds = names-after s (k .names) w; cancels = cond start (names-up-to s (k .names)) [] }
+item q s (clr ts) k = record { counter = q; adds = []; cancels = target-names ts }
 
 -- ---- an origin makes one more message
 
@@ -209,7 +209,7 @@ pub card-taken : (q : ℕ) (notes : ℕ → List Note) (v : (j : ℕ) → ValidN
     → CardOk q notes row b r c → b .N s < length (notes s)
     → (t : Note) → getD (notes s) (b .N s) no-note ≡ t → NoteTargetsOn notes t
     → CardOk q notes (row-after s t (seen notes b s) row) (taken s (wire q t) b)
-    (join (item s t (seen notes b s) .adds) r) (join (item s t (seen notes b s) .cancels) c)
+    (join (item q s t (seen notes b s) .adds) r) (join (item q s t (seen notes b s) .cancels) c)
 unfolding row-after join
 card-taken q notes v s row b r c k waits (other m) e o =
     card-other q notes v s row b r c k waits m (rw e at (note-ok q s (notes s) (v s) (b .N s) waits)) (rw (mark-suc (b .N s) (notes s) waits, e))

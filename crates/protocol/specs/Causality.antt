@@ -165,20 +165,20 @@ module _ (r q : ℕ) (T : Table) (ok : AllOk q T) (outside : (j : ℕ) → r ≤
   -- a message of another counter
   pub other-in-order : (c : ℕ) (clears : Bool) (w : ℕ) → (c ≡ q → ⊥)
       → MessageOk q T i (length (T i))
-      (record { sent = record { id = name i (suc (length (T i))); counter = c; clears = clears; amount = w; before = before }; item = nothing })
+      (record { sent = record { id = name i (suc (length (T i))); counter = c; clears = clears; amount = w; before = before }; item = nothing c })
   unfolding names-after
   other-in-order c clears w d =
-      in-order _ nothing refl refl (rw (ne-eqb c q d))
+      in-order _ (nothing c) refl refl (rw (ne-eqb c q d))
       (λ e. absurd (false≢true (sym (and-no-right clears (eqb c q) (ne-eqb c q d)) ∙ e)))
       (λ P all known j o h. has-none (name j o) h)
 
   -- a count of q: if it has the start flag, all that card i has made is cancelled at card i
   pub count-in-order : (w : ℕ)
       → MessageOk q T i (length (T i))
-      (record { sent = record { id = name i (suc (length (T i))); counter = q; clears = false; amount = w; before = before }; item = count-item i w l })
+      (record { sent = record { id = name i (suc (length (T i))); counter = q; clears = false; amount = w; before = before }; item = count-item q i w l })
   unfolding count-item
   count-in-order w =
-      in-order _ (count-item i w l) refl refl
+      in-order _ (count-item q i w l) refl refl
       (rw (received-latest i, own, eq-eqb q q refl))
       (λ e. absurd (false≢true e))
       (λ P all known j o h. by-test (beyond i (l .received i) (l .cancelled i))
@@ -191,10 +191,10 @@ module _ (r q : ℕ) (T : Table) (ok : AllOk q T) (outside : (j : ℕ) → r ≤
 
   -- a clear of q
   pub clear-in-order : MessageOk q T i (length (T i))
-      (record { sent = record { id = name i (suc (length (T i))); counter = q; clears = true; amount = 0; before = before }; item = clear-item r i l })
+      (record { sent = record { id = name i (suc (length (T i))); counter = q; clears = true; amount = 0; before = before }; item = clear-item r q i l })
   unfolding names-after
   clear-in-order =
-      in-order _ (clear-item r i l) refl refl
+      in-order _ (clear-item r q i l) refl refl
       (rw (eq-eqb q q refl))
       (λ e P all new j o some known.
       by-le o (g j)

@@ -235,7 +235,7 @@ module _ (r q : ℕ) (st : Chassis) (l : Ledger) (h : History) (ok : Ok r q st l
 
   -- what card i makes is in order: a count or a clear of q, and a message of another counter
   count-traced : (i c w : ℕ) → i < r → (m : Message)
-      → Traced r q (issued i m st) (made i (cond (eqb c q) (count-item i w l) nothing) l) (made-by i (next-made i c false w h) h)
+      → Traced r q (issued i m st) (made i (cond (eqb c q) (count-item q i w l) (nothing c)) l) (made-by i (next-made i c false w h) h)
   count-traced i c w below m =
       by-place c q
       (λ e. rw (eq-eqb c q e, e, made-so-far i)
@@ -248,7 +248,7 @@ module _ (r q : ℕ) (st : Chassis) (l : Ledger) (h : History) (ok : Ok r q st l
       _ (ok .cards i .cancelled-is) (ids (h .received i)) (k .known .names i) c false w d) m))
 
   clear-traced : (i c : ℕ) → i < r → (m : Message)
-      → Traced r q (issued i m st) (made i (cond (eqb c q) (clear-item r i l) nothing) l) (made-by i (next-made i c true 0 h) h)
+      → Traced r q (issued i m st) (made i (cond (eqb c q) (clear-item r q i l) (nothing c)) l) (made-by i (next-made i c true 0 h) h)
   clear-traced i c below m =
       by-place c q
       (λ e. rw (eq-eqb c q e, e, made-so-far i)

@@ -1,12 +1,14 @@
--- LAWS. The names of a list: of two lists one behind the other, of a card's names in a row, of a set that names have joined.
-use Prim.Native.Nat.{ℕ, zero, suc, _+_, _≤_, _<_}
+-- LAWS. The names of a list, and the latest of them: of two lists one behind the other, of a card's names in a row, of a set that names have joined.
+use Prim.Native.Nat.{ℕ, zero, suc, _+_, _≤_, _<_, max}
 use mathlib.Core.Path.{_≡_, refl, sym, ap₂, _∙_}
-use mathlib.Core.Bool.{Bool, true, false, _||_, false≢true}
+use mathlib.Core.Bool.{Bool, true, false, cond, _||_, false≢true}
 use mathlib.Core.List.{List, [], _∷_, _++_}
 use native.Mathlib.Omega.{arith}
+use lib.Dec.{eqb}
+use borrow.Author.Tests.{eq-eqb, ne-eqb}
 use Rattle.protocol.specs.Cases.{by-test, by-place, or-cases, or-left, or-right}
-use Rattle.protocol.specs.Names.{Name, name, same-name, has, insert, join, names-after}
-use Rattle.protocol.specs.NameLaws.{same-name-is, found, has-first, has-more}
+use Rattle.protocol.specs.Names.{Name, name, same-name, has, insert, join, names-after, names-up-to, latest}
+use Rattle.protocol.specs.NameLaws.{same-name-is, found, has-first, has-more, latest-bounds}
 
 pub has-none {ℓ} : {P : Type ℓ} (n : Name) → has [] n ≡ true → P
 unfolding has
@@ -84,3 +86,43 @@ has-join-right a s n h = rw (has-join a s n) (or-right (has a n) (has s n) h)
 
 pub has-join-left : (a s : List Name) (n : Name) → has a n ≡ true → has (join a s) n ≡ true
 has-join-left a s n h = rw (has-join a s n) (or-left (has a n) (has s n) h)
+
+-- ---- the latest name
+
+latest-insert : (j : ℕ) (n : Name) (s : List Name) → latest j (insert n s) ≡ max (cond (eqb (n .card) j) (n .ordinal) 0) (latest j s)
+unfolding insert latest
+latest-insert j n s =
+    by-test (has s n)
+    (λ e.
+    rw e
+    (by-place (n .card) j
+    (λ d. let q : n .ordinal ≤ latest j s = latest-bounds j (n .ordinal) s (rw (← d) e) in rw (eq-eqb (n .card) j d) (omega arith))
+    (λ d. rw (ne-eqb (n .card) j d) (omega arith))))
+    (λ e. rw e)
+
+pub latest-join : (j : ℕ) (ns s : List Name) → latest j (join ns s) ≡ max (latest j ns) (latest j s)
+unfolding join latest
+latest-join j [] s = omega arith
+latest-join j (n ∷ ns) s = let a = latest-join j ns (insert n s) in let b = latest-insert j n s in omega arith
+
+pub latest-append : (j : ℕ) (a b : List Name) → latest j (a ++ b) ≡ max (latest j a) (latest j b)
+unfolding latest
+latest-append j [] b = omega arith
+latest-append j (n ∷ a) b = let h = latest-append j a b in omega arith
+
+-- of card i's names after the b-th, w of them; of its names up to the y-th
+pub latest-after : (j i b w : ℕ) → max (cond (eqb i j) b 0) (latest j (names-after i b w)) ≡ cond (eqb i j) (b + w) 0
+unfolding latest names-after
+latest-after j i b zero = by-test (eqb i j) (λ e. rw e (omega arith)) (λ e. rw e (omega arith))
+latest-after j i b (suc w) =
+    let h = latest-after j i (suc b) w in
+    by-test (eqb i j)
+    (λ e. let h₁ : max (suc b) (latest j (names-after i (suc b) w)) ≡ suc b + w = rw e at h in rw e (omega arith))
+    (λ e. let h₁ : max 0 (latest j (names-after i (suc b) w)) ≡ 0 = rw e at h in rw e (omega arith))
+
+pub latest-up-to : (j i y : ℕ) → latest j (names-up-to i y) ≡ cond (eqb i j) y 0
+latest-up-to j i y =
+    let h = latest-after j i 0 y in
+    by-test (eqb i j)
+    (λ e. let h₁ : max 0 (latest j (names-after i 0 y)) ≡ 0 + y = rw e at h in rw e (omega arith))
+    (λ e. let h₁ : max 0 (latest j (names-after i 0 y)) ≡ 0 = rw e at h in rw e (omega arith))

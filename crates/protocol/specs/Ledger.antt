@@ -14,14 +14,17 @@ pub data Step : Type 0 where
   clear : ℕ → ℕ → Step
   deliver : ℕ → ℕ → Step
 
--- What a message says of the ledger's counter: the names that join received, and those that join cancelled.
+-- a message, as a link has it
 pub record Item : Type 0 where
+  -- the counter that it is of
+  pub counter : ℕ
+  -- what it says of the ledger's counter: the names that join received, and those that join cancelled
   pub adds : List Name
   pub cancels : List Name
 
--- a message of another counter
-abbrev pub nothing : Item
-nothing = record { adds = []; cancels = [] }
+-- a message of another counter k
+abbrev pub nothing : ℕ → Item
+nothing k = record { counter = k; adds = []; cancels = [] }
 
 -- "One ledger for each counter." "Each card has a received set and a cancelled set, .. and each link a queue."
 pub record Ledger : Type 0 where
@@ -36,10 +39,11 @@ empty-ledger = record { received = λ i. []; cancelled = λ i. []; queue = λ s 
 
 -- ---- "Count by i: a new name. If no name of i is received and uncancelled at i, the message also cancels all earlier names of i."
 -- The rule is looked at before the new name joins. Card i has received all its own names, so the latest of them is the last one made.
-unfoldable pub count-item : ℕ → ℕ → Ledger → Item
-count-item i w l =
+unfoldable pub count-item : ℕ → ℕ → ℕ → Ledger → Item
+count-item q i w l =
     let earlier = latest i (l .received i) in
     record {
+      counter = q;
       adds = names-after i earlier w;
       cancels = cond (beyond i (l .received i) (l .cancelled i)) [] (names-up-to i earlier);
     }
@@ -54,20 +58,30 @@ clear-names zero i l = []
 clear-names (suc r) i l =
     clear-names r i l ++ cond (holds i r l) (names-up-to r (max (latest r (l .received i)) (latest r (l .cancelled i)))) []
 
-abbrev pub clear-item : ℕ → ℕ → Ledger → Item
-clear-item r i l = record { adds = []; cancels = clear-names r i l }
+abbrev pub clear-item : ℕ → ℕ → ℕ → Ledger → Item
+clear-item r q i l = record { counter = q; adds = []; cancels = clear-names r i l }
 
--- ---- "Deliver: a link hands over its sender's accepted counts and clears, of all counters, in the order made, and the step belongs to the
--- counter of the one whose turn it is."
+-- ---- "Deliver: a link hands over its sender's accepted counts and clears, of all counters, in the order made,"
 
--- the one whose turn it is: of another counter it is `nothing`
+-- the one whose turn it is
 unfoldable pub next-item : List Item → Item
-next-item [] = nothing
+next-item [] = nothing 0
 next-item (it ∷ rest) = it
 
 unfoldable pub rest-items : List Item → List Item
 rest-items [] = []
 rest-items (it ∷ rest) = rest
+
+-- "and the step belongs to the counter of the one whose turn it is.": is it counter q's?
+unfoldable pub turn-is : ℕ → List Item → Bool
+turn-is q [] = false
+turn-is q (it ∷ rest) = eqb (it .counter) q
+
+-- does a step belong to counter q? (claim `other-steps-leave`)
+unfoldable pub belongs : ℕ → Step → Ledger → Bool
+belongs q (count i k w) l = eqb k q
+belongs q (clear i k) l = eqb k q
+belongs q (deliver i s) l = turn-is q (l .queue s i)
 
 -- "While a link has nothing to hand over, no deliver step on it is accepted.": has the link from s to i something? (claim `deliver-enabled`)
 unfoldable pub some-item : List Item → Bool
@@ -102,8 +116,8 @@ made i it l = applied i it (sent i it l)
 
 -- "an accepted step of another counter changes only its queues"
 unfoldable pub entered : ℕ → ℕ → Step → Ledger → Ledger
-entered r q (count i k w) l = made i (cond (eqb k q) (count-item i w l) nothing) l
-entered r q (clear i k) l = made i (cond (eqb k q) (clear-item r i l) nothing) l
+entered r q (count i k w) l = made i (cond (eqb k q) (count-item q i w l) (nothing k)) l
+entered r q (clear i k) l = made i (cond (eqb k q) (clear-item r q i l) (nothing k)) l
 entered r q (deliver i s) l = handed i s l
 
 -- "A declined step changes nothing in it"

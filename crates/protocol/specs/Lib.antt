@@ -25,6 +25,8 @@ pub mod Cleared
 -- CLAIMS
 pub mod Claims
 pub mod Examples
+pub mod LedgerClaims
+pub mod LedgerExamples
 pub mod AloneClaims
 pub mod AloneExamples
 pub mod ReadAndClearClaims
@@ -49,6 +51,9 @@ pub mod EntryLaws
 pub mod NameLaws
 pub mod Joins
 pub mod Chain
+-- A ledger that is fed steps: its links, its sets, the names that a count makes.
+pub mod LedgerLaws
+pub mod NewNames
 -- The invariant: of a card and an origin, of a card, of all; what cards send; the steps; the theorem.
 pub mod Pairs
 pub mod Cards

@@ -69,7 +69,7 @@ module _ (q : ℕ) (notes : ℕ → List Note) (v : (j : ℕ) → ValidNotes q j
         rw (k .pairs i .C-is)
         (count-follows (seen notes b i) (row i) (b .entry q i) w h (seen-proper i) (own-last (row i) (k .pairs i .chain) .names≤) (k .pairs i .entry))
 
-    pub count-enters : (w : ℕ) → count-item i w l ≡ item i (count-note i q w b) (seen notes b i)
+    pub count-enters : (w : ℕ) → count-item q i w l ≡ item q i (count-note i q w b) (seen notes b i)
     unfolding count-item
     count-enters w =
         rw (
@@ -80,8 +80,8 @@ module _ (q : ℕ) (notes : ℕ → List Note) (v : (j : ℕ) → ValidNotes q j
         (turn (present (b .entry q i)))
       where
         turn : (t : Bool) → _≡_ {A = Item}
-            (record { adds = names-after i (seen notes b i .names) w; cancels = cond t [] (names-up-to i (seen notes b i .names)) })
-            (record { adds = names-after i (seen notes b i .names) w; cancels = cond (not t) (names-up-to i (seen notes b i .names)) [] })
+            (record { counter = q; adds = names-after i (seen notes b i .names) w; cancels = cond t [] (names-up-to i (seen notes b i .names)) })
+            (record { counter = q; adds = names-after i (seen notes b i .names) w; cancels = cond (not t) (names-up-to i (seen notes b i .names)) [] })
         turn true = refl
         turn false = refl
 
@@ -178,5 +178,5 @@ module _ (q : ℕ) (notes : ℕ → List Note) (v : (j : ℕ) → ValidNotes q j
   pub clear-on : (r : ℕ) → TargetsOn notes (clear-targets r (seen notes b) row (b .entry q))
   clear-on r = targets-on q notes v i row b l k r
 
-  pub clear-enters : (r : ℕ) → clear-item r i l ≡ item i (clear-note notes row r q b) (seen notes b i)
-  clear-enters r = ap (λ (ns : List Name). record { adds = []; cancels = ns }) (targets-entered q notes v i row b l k r)
+  pub clear-enters : (r : ℕ) → clear-item r q i l ≡ item q i (clear-note notes row r q b) (seen notes b i)
+  clear-enters r = ap (λ (ns : List Name). record { counter = q; adds = []; cancels = ns }) (targets-entered q notes v i row b l k r)

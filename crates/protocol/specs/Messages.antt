@@ -22,7 +22,7 @@ pub record Told : Type 0 where
   pub item : Item
 
 abbrev pub no-told : Told
-no-told = record { sent = no-sent; item = nothing }
+no-told = record { sent = no-sent; item = nothing 0 }
 
 abbrev pub Table : Type 0
 Table = ℕ → List Told

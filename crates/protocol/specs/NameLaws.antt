@@ -170,6 +170,14 @@ unfolding any
 any-no p [] h = refl
 any-no p (n ∷ s) h = rw (h n (has-first n s (n .card) (n .ordinal) refl refl), any-no p s (λ m c. h m (has-more n s m c)))
 
+-- where no name of j is in s and not in t
+pub not-beyond : (j : ℕ) (s t : List Name) → beyond j s t ≡ false → (n : Name) → n .card ≡ j → has s n ≡ true → has t n ≡ true
+unfolding beyond
+not-beyond j s t none n c h =
+    by-test (has t n) (λ e. e)
+    (λ e. absurd (false≢true (sym none ∙ any-yes (λ m. eqb (m .card) j && not (has t m)) s (n .card) (n .ordinal)
+    (λ m d o. let same : m ≡ n = ap₂ name d o in rw (same, eq-eqb (n .card) j c, e)) h)))
+
 module _ (s t : List Name) (f g : ℕ → ℕ) (ks : Prefixes s f) (kt : Prefixes t g) where
   -- of a name in s: it is not in t exactly if it is later than t's prefix
   missing-is : (n : Name) → has s n ≡ true → not (has t n) ≡ ltb (g (n .card)) (n .ordinal)
@@ -200,7 +208,7 @@ module _ (s t : List Name) (f g : ℕ → ℕ) (ks : Prefixes s f) (kt : Prefixe
 
 -- ---- how many names are in s and not in t
 
-tally-cong : (p q : Name → Bool) (s : List Name) → ((n : Name) → has s n ≡ true → p n ≡ q n) → tally p s ≡ tally q s
+pub tally-cong : (p q : Name → Bool) (s : List Name) → ((n : Name) → has s n ≡ true → p n ≡ q n) → tally p s ≡ tally q s
 unfolding tally
 tally-cong p q [] h = refl
 tally-cong p q (n ∷ s) h =
@@ -210,6 +218,16 @@ pub tally-none : (p : Name → Bool) (s : List Name) → ((n : Name) → has s n
 unfolding tally
 tally-none p [] h = refl
 tally-none p (n ∷ s) h = rw (h n (has-first n s (n .card) (n .ordinal) refl refl), tally-none p s (λ m c. h m (has-more n s m c)))
+
+-- Card j's names after the b-th, w of them, join a set that has none of them: if each passes the test, the number rises by w.
+pub tally-new : (p : Name → Bool) (w b j : ℕ) (s : List Name) → latest j s ≤ b → ((o : ℕ) → b < o → p (name j o) ≡ true)
+    → tally p (join (names-after j b w) s) ≡ tally p s + w
+unfolding tally latest
+tally-new p zero b j s l h = rw join-none (omega arith)
+tally-new p (suc w) b j s l h =
+    rw (join-more w b j s, insert-new (name j (suc b)) s (not-yes (has s (name j (suc b))) (λ c. let q = latest-bounds j (suc b) s c in omega arith)))
+    (tally-new p w (suc b) j (name j (suc b) ∷ s) (rw (eq-eqb j j refl) (omega arith)) (λ o m. h o (omega arith))
+    ∙ rw (h (suc b) (omega arith)) (omega arith))
 
 -- names of cards below r are counted card by card
 tally-by-card : (r : ℕ) (p : Name → Bool) (s : List Name) → ((n : Name) → has s n ≡ true → n .card < r)

@@ -18,12 +18,12 @@ use Rattle.protocol.specs.Chain.{Note, other, no-note, Target, clr, inc,
 use Rattle.protocol.specs.Cards.{seen, CardOk, item, TargetsOn, NoteTargetsOn, row-after, card-more, card-taken}
 
 -- what a link has still to hand over: the items of notes h, where k is the mark of the notes before
-unfoldable pub items : ℕ → List Note → Mark → List Item
-items s [] k = []
-items s (t ∷ h) k = item s t k ∷ items s h (after t k)
+unfoldable pub items : ℕ → ℕ → List Note → Mark → List Item
+items q s [] k = []
+items q s (t ∷ h) k = item q s t k ∷ items q s h (after t k)
 
-abbrev pub waiting : ℕ → List Note → ℕ → List Item
-waiting s h n = items s (drop n h) (mark-at n h)
+abbrev pub waiting : ℕ → ℕ → List Note → ℕ → List Item
+waiting q s h n = items q s (drop n h) (mark-at n h)
 
 pub record Ok (r q : ℕ) (st : Chassis) (l : Ledger) : Type 0 where
   -- each card's messages, as notes; how far each card has each origin's names cancelled
@@ -34,26 +34,26 @@ pub record Ok (r q : ℕ) (st : Chassis) (l : Ledger) : Type 0 where
   pub targets : (j n : ℕ) → n < length (notes j) → NoteTargetsOn notes (getD (notes j) n no-note)
   pub cards : (i : ℕ) → CardOk q notes (row i) (st .replica i) (l .received i) (l .cancelled i)
   pub own : (i : ℕ) → st .replica i .N i ≡ length (notes i)
-  pub queues : (s i : ℕ) → (i ≡ s → ⊥) → l .queue s i ≡ waiting s (notes s) (st .replica i .N s)
+  pub queues : (s i : ℕ) → (i ≡ s → ⊥) → l .queue s i ≡ waiting q s (notes s) (st .replica i .N s)
   pub outside : (j : ℕ) → r ≤ j → notes j ≡ []
 
 -- ---- the waiting items, when a message is made and when one is handed over
 
-items-append : (s : ℕ) (h : List Note) (t : Note) (k : Mark) → items s (h ++ t ∷ []) k ≡ items s h k ++ item s t (mark-from (length h) h k) ∷ []
+items-append : (q s : ℕ) (h : List Note) (t : Note) (k : Mark) → items q s (h ++ t ∷ []) k ≡ items q s h k ++ item q s t (mark-from (length h) h k) ∷ []
 unfolding items mark-from
-items-append s [] t k = refl
-items-append s (u ∷ h) t k = ap {B = List Item} (λ its. item s u k ∷ its) (items-append s h t (after u k))
+items-append q s [] t k = refl
+items-append q s (u ∷ h) t k = ap {B = List Item} (λ its. item q s u k ∷ its) (items-append q s h t (after u k))
 
-waiting-from : (s n : ℕ) (h : List Note) (t : Note) (k : Mark) → n ≤ length h
-    → items s (drop n (h ++ t ∷ [])) (mark-from n (h ++ t ∷ []) k) ≡ items s (drop n h) (mark-from n h k) ++ item s t (mark-from (length h) h k) ∷ []
+waiting-from : (q s n : ℕ) (h : List Note) (t : Note) (k : Mark) → n ≤ length h
+    → items q s (drop n (h ++ t ∷ [])) (mark-from n (h ++ t ∷ []) k) ≡ items q s (drop n h) (mark-from n h k) ++ item q s t (mark-from (length h) h k) ∷ []
 unfolding mark-from
-waiting-from s zero h t k l = items-append s h t k
-waiting-from s (suc n) [] t k l = absurd (omega arith)
-waiting-from s (suc n) (u ∷ h) t k l = waiting-from s n h t (after u k) (omega arith)
+waiting-from q s zero h t k l = items-append q s h t k
+waiting-from q s (suc n) [] t k l = absurd (omega arith)
+waiting-from q s (suc n) (u ∷ h) t k l = waiting-from q s n h t (after u k) (omega arith)
 
-waiting-next : (s n : ℕ) (h : List Note) → n < length h → waiting s h n ≡ item s (getD h n no-note) (mark-at n h) ∷ waiting s h (suc n)
+waiting-next : (q s n : ℕ) (h : List Note) → n < length h → waiting q s h n ≡ item q s (getD h n no-note) (mark-at n h) ∷ waiting q s h (suc n)
 unfolding items
-waiting-next s n h l = rw (drop-cons h n no-note l, mark-suc n h l)
+waiting-next q s n h l = rw (drop-cons h n no-note l, mark-suc n h l)
 
 -- ---- notes, when one is made
 
@@ -119,7 +119,7 @@ module _ (r q : ℕ) (st : Chassis) (l : Ledger) (k : Ok r q st l) (i : ℕ) (t 
   same-mark = rw notes⁺ (mark-append (st .replica i .N i) (k .notes i) t (k .cards i .pairs i .within))
 
   maker : CardOk q (more-notes (k .notes) i t) (row-after i t (seen (k .notes) (st .replica i) i) (k .row i)) (taken i (wire q t) (st .replica i))
-      (join (item i t (seen (k .notes) (st .replica i) i) .adds) (l .received i)) (join (item i t (seen (k .notes) (st .replica i) i) .cancels) (l .cancelled i))
+      (join (item q i t (seen (k .notes) (st .replica i) i) .adds) (l .received i)) (join (item q i t (seen (k .notes) (st .replica i) i) .cancels) (l .cancelled i))
   maker =
       rw same-mark at
       (card-taken q (more-notes (k .notes) i t) valid⁺ i (k .row i) (st .replica i) (l .received i) (l .cancelled i) (cards-more i)
@@ -130,8 +130,8 @@ module _ (r q : ℕ) (st : Chassis) (l : Ledger) (k : Ok r q st l) (i : ℕ) (t 
   cards⁺ : (j : ℕ) → CardOk q (more-notes (k .notes) i t)
       (put i (row-after i t (seen (k .notes) (st .replica i) i) (k .row i)) (k .row) j)
       (put i (taken i (wire q t) (st .replica i)) (st .replica) j)
-      (put i (join (item i t (seen (k .notes) (st .replica i) i) .adds) (l .received i)) (l .received) j)
-      (put i (join (item i t (seen (k .notes) (st .replica i) i) .cancels) (l .cancelled i)) (l .cancelled) j)
+      (put i (join (item q i t (seen (k .notes) (st .replica i) i) .adds) (l .received i)) (l .received) j)
+      (put i (join (item q i t (seen (k .notes) (st .replica i) i) .cancels) (l .cancelled i)) (l .cancelled) j)
   cards⁺ j = by-place j i (λ e. simp put-at maker) (λ d. simp put-other (cards-more j))
 
   own⁺ : (j : ℕ) → put i (taken i (wire q t) (st .replica i)) (st .replica) j .N j ≡ length (more-notes (k .notes) i t j)
@@ -142,19 +142,19 @@ module _ (r q : ℕ) (st : Chassis) (l : Ledger) (k : Ok r q st l) (i : ℕ) (t 
 
   -- the links that leave i get the item; the others stay, and so does what i has received of other cards
   queues⁺ : (s j : ℕ) → (j ≡ s → ⊥)
-      → put i (λ n. l .queue i n ++ item i t (seen (k .notes) (st .replica i) i) ∷ []) (l .queue) s j
-      ≡ waiting s (more-notes (k .notes) i t s) (put i (taken i (wire q t) (st .replica i)) (st .replica) j .N s)
+      → put i (λ n. l .queue i n ++ item q i t (seen (k .notes) (st .replica i) i) ∷ []) (l .queue) s j
+      ≡ waiting q s (more-notes (k .notes) i t s) (put i (taken i (wire q t) (st .replica i)) (st .replica) j .N s)
   queues⁺ s j apart =
       by-place s i
       (λ e. by-place j i
       (λ f. absurd (apart (f ∙ sym e)))
       (λ f. rw e (simp (put-same-row, put-same, put-other, k .queues i j f, own-mark)
-      (sym (waiting-from i (st .replica j .N i) (k .notes i) t no-messages (k .cards j .pairs i .within))))))
+      (sym (waiting-from q i (st .replica j .N i) (k .notes i) t no-messages (k .cards j .pairs i .within))))))
       (λ d. by-place j i
       (λ f. simp (put-other-row, put-at, taken-N, put-other) (rw (← f) (k .queues s j apart)))
       (λ f. simp (put-other-row, put-other) (k .queues s j apart)))
 
-  issued-here : i < r → Ok r q (issued i (wire q t) st) (made i (item i t (seen (k .notes) (st .replica i) i)) l)
+  issued-here : i < r → Ok r q (issued i (wire q t) st) (made i (item q i t (seen (k .notes) (st .replica i) i)) l)
   unfolding issued made applied sent
   issued-here below = record {
     notes = more-notes (k .notes) i t;
@@ -170,7 +170,7 @@ module _ (r q : ℕ) (st : Chassis) (l : Ledger) (k : Ok r q st l) (i : ℕ) (t 
 
 -- as the steps use it: the message and the item are the note's
 pub issued-ok : (r q : ℕ) (st : Chassis) (l : Ledger) (k : Ok r q st l) (i : ℕ) (m : Message) (it : Item) (t : Note) → i < r
-    → m ≡ wire q t → it ≡ item i t (seen (k .notes) (st .replica i) i)
+    → m ≡ wire q t → it ≡ item q i t (seen (k .notes) (st .replica i) i)
     → NoteOk q i t (seen (k .notes) (st .replica i) i) → NoteTargetsOn (k .notes) t
     → Ok r q (issued i m st) (made i it l)
 issued-ok r q st l k i m it t below e f o on = rw (e, f) (issued-here r q st l k i t o on below)
@@ -186,20 +186,20 @@ module _ (r q : ℕ) (st : Chassis) (l : Ledger) (k : Ok r q st l) (i s : ℕ) (
   unfolding turn
   its-message = rw (k .logs s) (List·getD-map (wire q) (k .notes s) (st .replica i .N s) no-note)
 
-  link : l .queue s i ≡ item s turn (seen (k .notes) (st .replica i) s) ∷ waiting s (k .notes s) (suc (st .replica i .N s))
+  link : l .queue s i ≡ item q s turn (seen (k .notes) (st .replica i) s) ∷ waiting q s (k .notes s) (suc (st .replica i .N s))
   unfolding turn
-  link = k .queues s i apart ∙ waiting-next s (st .replica i .N s) (k .notes s) waits
+  link = k .queues s i apart ∙ waiting-next q s (st .replica i .N s) (k .notes s) waits
 
-  its-item : next-item (l .queue s i) ≡ item s turn (seen (k .notes) (st .replica i) s)
+  its-item : next-item (l .queue s i) ≡ item q s turn (seen (k .notes) (st .replica i) s)
   unfolding next-item
   its-item = ap next-item link
 
-  its-rest : rest-items (l .queue s i) ≡ waiting s (k .notes s) (suc (st .replica i .N s))
+  its-rest : rest-items (l .queue s i) ≡ waiting q s (k .notes s) (suc (st .replica i .N s))
   unfolding rest-items
   its-rest = ap rest-items link
 
   taker : CardOk q (k .notes) (row-after s turn (seen (k .notes) (st .replica i) s) (k .row i)) (taken s (wire q turn) (st .replica i))
-      (join (item s turn (seen (k .notes) (st .replica i) s) .adds) (l .received i)) (join (item s turn (seen (k .notes) (st .replica i) s) .cancels) (l .cancelled i))
+      (join (item q s turn (seen (k .notes) (st .replica i) s) .adds) (l .received i)) (join (item q s turn (seen (k .notes) (st .replica i) s) .cancels) (l .cancelled i))
   unfolding turn
   taker =
       card-taken q (k .notes) (k .valid) s (k .row i) (st .replica i) (l .received i) (l .cancelled i) (k .cards i) waits
@@ -228,7 +228,7 @@ module _ (r q : ℕ) (st : Chassis) (l : Ledger) (k : Ok r q st l) (i s : ℕ) (
   own′ j = by-place j i (λ e. rw e (simp (N-here, put-other) (k .own i))) (λ d. simp replica-there (k .own j))
 
   queues′ : (o j : ℕ) → (j ≡ o → ⊥)
-      → put s (put i (rest-items (l .queue s i)) (l .queue s)) (l .queue) o j ≡ waiting o (k .notes o) (replica′ j .N o)
+      → put s (put i (rest-items (l .queue s i)) (l .queue s)) (l .queue) o j ≡ waiting q o (k .notes o) (replica′ j .N o)
   queues′ o j far =
       by-place o s
       (λ e. by-place j i

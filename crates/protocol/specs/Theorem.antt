@@ -60,30 +60,30 @@ unfolding clear-message
 clear-counter r c b = refl
 
 module _ (r q : ℕ) (st : Chassis) (l : Ledger) (k : Ok r q st l) where
-  count-ok : (i c w : ℕ) → i < r → 0 < w → Ok r q (issued i (count-message i c w (st .replica i)) st) (made i (cond (eqb c q) (count-item i w l) nothing) l)
+  count-ok : (i c w : ℕ) → i < r → 0 < w → Ok r q (issued i (count-message i c w (st .replica i)) st) (made i (cond (eqb c q) (count-item q i w l) (nothing c)) l)
   count-ok i c w below some =
       by-place c q
       (λ e. rw (eq-eqb c q e, e)
-      (issued-ok r q st l k i (count-message i q w (st .replica i)) (count-item i w l) (count-note i q w (st .replica i)) below
+      (issued-ok r q st l k i (count-message i q w (st .replica i)) (count-item q i w l) (count-note i q w (st .replica i)) below
       (count-sends q (k .notes) (k .valid) i (k .row i) (st .replica i) l (k .cards i) (k .own i) w)
       (count-enters q (k .notes) (k .valid) i (k .row i) (st .replica i) l (k .cards i) (k .own i) w)
       (count-in-order q (k .notes) (k .valid) i (k .row i) (st .replica i) l (k .cards i) (k .own i) w some)
       tt))
       (λ d. rw (ne-eqb c q d)
-      (issued-ok r q st l k i (count-message i c w (st .replica i)) nothing (other (count-message i c w (st .replica i))) below refl refl
+      (issued-ok r q st l k i (count-message i c w (st .replica i)) (nothing c) (other (count-message i c w (st .replica i))) below refl (ap nothing (sym (count-counter i c w (st .replica i))))
       (λ e. d (sym (count-counter i c w (st .replica i)) ∙ e)) tt))
 
-  clear-ok : (i c : ℕ) → i < r → Ok r q (issued i (clear-message r c (st .replica i)) st) (made i (cond (eqb c q) (clear-item r i l) nothing) l)
+  clear-ok : (i c : ℕ) → i < r → Ok r q (issued i (clear-message r c (st .replica i)) st) (made i (cond (eqb c q) (clear-item r q i l) (nothing c)) l)
   clear-ok i c below =
       by-place c q
       (λ e. rw (eq-eqb c q e, e)
-      (issued-ok r q st l k i (clear-message r q (st .replica i)) (clear-item r i l) (clear-note (k .notes) (k .row i) r q (st .replica i)) below
+      (issued-ok r q st l k i (clear-message r q (st .replica i)) (clear-item r q i l) (clear-note (k .notes) (k .row i) r q (st .replica i)) below
       (clear-sends q (k .notes) (k .valid) i (k .row i) (st .replica i) l (k .cards i) r)
       (clear-enters q (k .notes) (k .valid) i (k .row i) (st .replica i) l (k .cards i) r)
       (clear-in-order q (k .notes) (k .valid) i (k .row i) (st .replica i) l (k .cards i) (k .own i) r)
       (clear-on q (k .notes) (k .valid) i (k .row i) (st .replica i) l (k .cards i) r)))
       (λ d. rw (ne-eqb c q d)
-      (issued-ok r q st l k i (clear-message r c (st .replica i)) nothing (other (clear-message r c (st .replica i))) below refl refl
+      (issued-ok r q st l k i (clear-message r c (st .replica i)) (nothing c) (other (clear-message r c (st .replica i))) below refl (ap nothing (sym (clear-counter r c (st .replica i))))
       (λ e. d (sym (clear-counter r c (st .replica i)) ∙ e)) tt))
 
   pub done-ok : (s : Step) → enabled r s st ≡ true → Ok r q (done r s st) (entered r q s l)
