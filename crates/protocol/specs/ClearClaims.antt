@@ -1,7 +1,7 @@
 -- CLAIMS. What a clear takes: what its card had seen, all of that, and for good. A clear that took counts that its card had not seen, or a cleared count
 -- that came back, would give one partition's bandwidth to another. Claims on the ledger; by `Claims.ledger-theorem` they are about what cards read.
 -- r, q, os, `after-run` and `ledger-after` are those of `Claims`; `Cleared` has the definition, `ClearedExamples` small lists.
-use Prim.Native.Nat.{ℕ, _<_}
+use Prim.Native.Nat.{ℕ}
 use mathlib.Core.Path.{_≡_}
 use mathlib.Core.Bool.{true, false, _||_}
 use mathlib.Core.List.{List, _++_}
@@ -27,15 +27,15 @@ unseen-is-untouched r q i os n received unseen = not-yes (has (ledger-after r q 
 -- on its own card there is cancelled exactly what was cancelled there before and what was received,
 -- nothing else is received there, and the value there is 0;
 -- and no other card's sets move until the message comes.
-pub clear-cancels-seen : (r q i : ℕ) (os : List Offer) → i < r →
-    let l = ledger-after r q os in
+pub clear-cancels-seen : (r q i : ℕ) (os : List Offer)
+    → let l = ledger-after r q os in
     let l′ = entered r q (clear i q) l in
     ((n : Name) → has (clear-names r i l) n ≡ true → has (l .received i) n || has (l .cancelled i) n ≡ true)
     × ((n : Name) → has (l′ .cancelled i) n ≡ has (l .cancelled i) n || has (l .received i) n)
     × (l′ .received i ≡ l .received i)
     × (ledger-value i l′ ≡ 0)
     × ((j : ℕ) → (j ≡ i → ⊥) → (l′ .received j ≡ l .received j) × (l′ .cancelled j ≡ l .cancelled j))
-clear-cancels-seen r q i os below =
+clear-cancels-seen r q i os =
     let st = after-run r os in
     let l = ledger-after r q os in
     let ok = run-invariant r q os in

@@ -3,7 +3,7 @@
 -- cancels what its card has cancelled, and a delivery brings what was under way. And a name that is cancelled on a card stays so.
 use Prim.Native.Nat.{ℕ, _≤_, _<_}
 use mathlib.Core.Path.{_≡_, refl, sym, ap, _∙_}
-use mathlib.Core.Bool.{Bool, true, false, not, cond, _||_, false≢true}
+use mathlib.Core.Bool.{true, false, not, cond, _||_, false≢true}
 use mathlib.Core.List.{List, [], _∷_, _++_, map}
 use native.Mathlib.Omega.{arith}
 use lib.Dec.{eqb}
@@ -12,10 +12,11 @@ use Rattle.protocol.specs.Cases.{by-place, by-le, by-test, or-left, or-r
 use Rattle.protocol.specs.Tables.{put, put-same, put-other, put-cases}
 use Rattle.protocol.specs.Names.{Name, has, join, names-up-to, latest, beyond}
 use Rattle.protocol.specs.NameLaws.{tally-none}
-use Rattle.protocol.specs.Joins.{has-none, has-join, from-join, has-join-right, names-after-only}
+use Rattle.protocol.specs.Joins.{has-none, has-join, from-join, names-after-only}
 use Rattle.protocol.specs.Ledger.{Step, count, clear, deliver, Item, Ledger, empty-ledger, count-item, holds, clear-names, next-item, rest-items, applied, sent, made, handed, entered, fed, kept, ledger-value}
 use Rattle.protocol.specs.Chassis.{Chassis, fresh-chassis, Offer, accepted, stepped, run, answers}
 use Rattle.protocol.specs.Runs.{step-of, after-run, ledger-after}
+use Rattle.protocol.specs.LedgerLaws.{kept-grows}
 use Rattle.protocol.specs.RunLaws.{kept-append}
 use Rattle.protocol.specs.Steps.{Ok}
 use Rattle.protocol.specs.Theorem.{fresh-ok, step-ok, run-invariant}
@@ -196,30 +197,11 @@ module _ (r q : ℕ) (st : Chassis) (l : Ledger) (ok : Ok r q st l) (i : ℕ) wh
 
 -- ---- what is cancelled stays so
 
-joined-stays : (l : Ledger) (j : ℕ) (ns : List Name) (i : ℕ) (n : Name) → has (l .cancelled i) n ≡ true
-    → has (put j (join ns (l .cancelled j)) (l .cancelled) i) n ≡ true
-joined-stays l j ns i n h =
-    put-cases (λ (s : List Name). has s n ≡ true) j (join ns (l .cancelled j)) (l .cancelled) i
-    (λ e. has-join-right ns (l .cancelled j) n (rw e at h)) (λ d. h)
-
-fed-stays : (r q : ℕ) (s : Step) (a : Bool) (l : Ledger) (i : ℕ) (n : Name) → has (l .cancelled i) n ≡ true → has (fed r q s a l .cancelled i) n ≡ true
-unfolding fed entered made sent handed applied
-fed-stays r q s false l i n h = h
-fed-stays r q (count j c w) true l i n h = joined-stays l j _ i n h
-fed-stays r q (clear j c) true l i n h = joined-stays l j _ i n h
-fed-stays r q (deliver j s) true l i n h = joined-stays l j _ i n h
-
-kept-stays : (r q : ℕ) (ss : List Step) (fs : List Bool) (l : Ledger) (i : ℕ) (n : Name) → has (l .cancelled i) n ≡ true → has (kept r q ss fs l .cancelled i) n ≡ true
-unfolding kept
-kept-stays r q [] fs l i n h = h
-kept-stays r q (s ∷ ss) [] l i n h = h
-kept-stays r q (s ∷ ss) (a ∷ fs) l i n h = kept-stays r q ss fs (fed r q s a l) i n (fed-stays r q s a l i n h)
-
 pub stays-cancelled : (r q i : ℕ) (os os′ : List Offer) (n : Name) → has (ledger-after r q os .cancelled i) n ≡ true
     → has (ledger-after r q (os ++ os′) .cancelled i) n ≡ true
 stays-cancelled r q i os os′ n h =
     rw (kept-append r q os os′ fresh-chassis empty-ledger)
-    (kept-stays r q (map step-of os′) (answers r os′ (after-run r os)) (ledger-after r q os) i n h)
+    (kept-grows r q (map step-of os′) (answers r os′ (after-run r os)) (ledger-after r q os) .cancelled i n h)
 
 pub is-cleared : (r q : ℕ) (os : List Offer) (n : Name) (w : ClearedBySeer r q os n) → has (ledger-after r q os .cancelled (w .card)) n ≡ true
 unfolding answers kept fed
@@ -227,6 +209,6 @@ is-cleared r q os n w =
     let l = ledger-after r q (w .before) in
     let st = after-run r (w .before) in
     rw (w .in-list, kept-append r q (w .before) (w .offer ∷ w .later) fresh-chassis empty-ledger)
-    (kept-stays r q (map step-of (w .later)) (answers r (w .later) (stepped r (w .offer) st)) (fed r q (w .offer .step) (accepted r (w .offer) st) l) (w .card) n
+    (kept-grows r q (map step-of (w .later)) (answers r (w .later) (stepped r (w .offer) st)) (fed r q (w .offer .step) (accepted r (w .offer) st) l) .cancelled (w .card) n
     (rw (w .was-accepted, w .is-clear, clear-cancelled r q st l (run-invariant r q (w .before)) (w .card) n)
     (or-right (has (l .cancelled (w .card)) n) (has (l .received (w .card)) n) (w .had-received))))

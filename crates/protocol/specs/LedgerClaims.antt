@@ -41,12 +41,7 @@ pub one-new-name : (i earlier : ℕ) → names-after i earlier 1 ≡ name i (suc
 unfolding names-after
 one-new-name i earlier = refl
 
--- "A declined step changes nothing in it,"
-pub declined-leaves : (r q : ℕ) (s : Step) (l : Ledger) → fed r q s false l ≡ l
-unfolding fed
-declined-leaves r q s l = refl
-
--- "and an accepted step of another counter changes only its queues.": the sets of every card stay as they are. A delivery that hands over a message of another counter
+-- "an accepted step of another counter changes only its queues.": the sets of every card stay as they are. A delivery that hands over a message of another counter
 -- is such a step.
 pub other-steps-leave : (r q : ℕ) (ss : List Step) (flags : List Bool) (s : Step) (a : Bool)
     → let l = kept r q ss flags empty-ledger in
