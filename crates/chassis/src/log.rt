@@ -3,6 +3,7 @@ use chassis_model::Span;
 use wire::decode;
 ghost use mathlib.Core.Path.{_≡_};
 ghost use Rattle.chassis_model.specs.Log.{span-at, waiting-part, waiting-span};
+ghost use Rattle.chassis.specs.PartOf.{PartOf};
 
 fn span(start: usize, length: usize) -> Span
     ensures { λ a. ⌜ a ≡ span-at start length ⌝ }
@@ -42,10 +43,12 @@ pub fn waiting_span(log: &[u8], q: u64) -> Span
     span(at, length)
 }
 
-// Hands out the part of the log where message number `q` stands, not a copy; an empty part stands for "no message waiting".
-// Ruled out: what `waiting_span` rules out, and a copy or another part than the one that stands there.
+// Hands out the part of the log where message number `q` stands, not a copy; an empty part, at the log's front, stands
+// for "no message waiting".
+// Ruled out: what `waiting_span` rules out, a copy, and the same bytes at another place, as the earlier of two equal messages
+// (must-fail/earlier_of_equal_messages).
 pub fn waiting(log: &[u8], q: u64) -> &[u8]
-    ensures { λ r. ⌜ now r ≡ waiting-part q (now (log .entry)) ⌝ }
+    ensures { λ r. ⌜ PartOf (log .entry) (waiting-span q (now (log .entry)) .start) (waiting-part q (now (log .entry))) r ⌝ }
 {
     let place = waiting_span(log, q);
     let start = place.start as usize;

@@ -19,6 +19,7 @@ ghost use Rattle.replica_model.specs.Layout.{replica-length};
 ghost use Rattle.replica_model.specs.Calls.{SendOutcome};
 ghost use Rattle.chassis_model.specs.Sends.{call-of};
 ghost use Rattle.chassis_model.specs.Run.{made, delivered, step-on, N-at};
+ghost use Rattle.chassis.specs.PartOf.{PartOf};
 ghost use Rattle.chassis.specs.Turns.{state-of, Given, Did, appended, Turned};
 
 pub const COUNT: u32 = 1;
@@ -106,7 +107,7 @@ fn received(z: Sizes, words: &[u64], card: usize, sender: usize) -> u64
 // The message that stands in a log from `at` on, as that part of the log.
 fn next_message(log: &[u8], at: usize) -> &[u8]
     requires { ⌜ (at ≤ length (now log)) × (28 ≤ length (drop at (now log))) × (called-length (drop at (now log)) ≤ length (drop at (now log))) ⌝ }
-    ensures { λ a. ⌜ now a ≡ take (called-length (drop at (now (log .entry)))) (drop at (now (log .entry))) ⌝ }
+    ensures { λ a. ⌜ PartOf (log .entry) at (take (called-length (drop at (now (log .entry)))) (drop at (now (log .entry)))) a ⌝ }
 {
     let rest = &log[at..];
     let length = decode::called_length_of(rest);

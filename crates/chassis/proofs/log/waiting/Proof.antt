@@ -1,5 +1,6 @@
--- What stands at the waiting span is the waiting part (`span-is-part`), and it ends inside the log (`span-inside`).
+-- What stands at the waiting span is the waiting part (`span-is-part`), and it ends inside the log (`span-inside`). The part begins where the span does.
 use Prim.Native.Nat.{_+_, _≤_}
+use mathlib.Core.Path.{refl}
 use native.Mathlib.Nat.{add-sub-cancel-left}
 use native.Mathlib.Omega.{arith}
 use lib.ListN.{length}
@@ -33,7 +34,11 @@ returns c =
     let called = c .before in
     let args = called .before .before .args in
     let place = called .waiting-span .result in
-    rw (add-sub-cancel-left (place .start) (place .length), called .waiting-span .ensures) (span-is-part (args .q) (now (args .log)))
+    record {
+      holds = rw (add-sub-cancel-left (place .start) (place .length), called .waiting-span .ensures) (span-is-part (args .q) (now (args .log)));
+      block = refl;
+      offset = rw (called .waiting-span .ensures) (omega arith);
+    }
 
 pub waiting-spec : {M : Type 1} → statement M
 waiting-spec =

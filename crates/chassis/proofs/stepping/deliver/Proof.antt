@@ -143,7 +143,7 @@ unfolding part
 message-is c =
     let link = c .before .before .before .before .before in
     let args = link .before .before .before .before .before .before .before .before .args in
-    rw (add-sub-cancel-left (args .sender * args .z .capacity) (args .z .capacity)) at (c .next-message .ensures)
+    rw (add-sub-cancel-left (args .sender * args .z .capacity) (args .z .capacity)) at (c .next-message .ensures .holds)
 
 -- where it ends
 message-end : (c : tie.After-next-message)

@@ -1,5 +1,6 @@
 -- The rest of the log from `at` on is what `drop` gives, and it is as long as the message that it begins with asks for.
-use mathlib.Core.Path.{_≡_, sym}
+use mathlib.Core.Path.{_≡_, refl, sym}
+use native.Mathlib.Omega.{arith}
 use lib.ListN.{drop}
 use lib.Seq.{length-take-le}
 use denote.Ref.{now}
@@ -30,7 +31,9 @@ slice-aggregate-result c =
     rw (rest-is (start .args .at) (now (start .args .log)), called (c .before)) (sym (length-take-le _ _ (start .pre .2)))
 
 returns : tie.Need-returns
-returns c = let args = c .before .before .before .before .args in rw (rest-is (args .at) (now (args .log)), called (c .before))
+returns c =
+    let args = c .before .before .before .before .args in
+    record { holds = rw (rest-is (args .at) (now (args .log)), called (c .before)); block = refl; offset = omega arith }
 
 pub next-message-spec : {M : Type 1} → statement M
 next-message-spec =
