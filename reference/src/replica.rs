@@ -120,6 +120,11 @@ impl<'a> Row<'a> {
     }
 }
 
+/// N of the sender, in words that are a replica.
+pub fn received_from(words: &[u64], sender: usize) -> u64 {
+    words[HEADER + words[0] as usize + sender]
+}
+
 /// Writes a fresh replica; only refused with 1.
 pub fn open(words: &mut [u64], cards: u64, counters: u64, own: u64) -> Result<(), u64> {
     Shape::new(words.len(), cards, counters, own)?;

@@ -1,11 +1,10 @@
 //! The library against the reference and the ledger, a fixed number of cases from printed seeds.
 //! YELANSUB_SEED sets another seed; `cargo run --release --bin soak` goes on for as long as asked.
 
-use yelansub_reference::differential::{calls, logs, messages, runs};
+use yelansub_reference::differential::{self, calls, logs, messages, runs};
 
 fn seed() -> u64 {
-    let given = std::env::var("YELANSUB_SEED").ok();
-    given.map_or(20_260_101, |seed| seed.parse().expect("YELANSUB_SEED is a number"))
+    differential::seed(20_260_101)
 }
 
 #[test]

@@ -1,15 +1,29 @@
 //! Random calls, messages, logs and runs against the library for as long as asked, then deeper
 //! exhaustive lists: `cargo run --release --offline --bin soak -- [MINUTES] [FIRST_SEED]`.
+//! One series alone, as long as asked: `-- network [CALLS] [SEED]`.
 //! Each round prints its seed; a difference panics with seed and case.
 
 use std::time::{Duration, Instant};
 
-use yelansub_reference::differential::{calls, logs, messages, runs};
+use yelansub_reference::differential::{calls, logs, messages, network, runs};
 
 fn main() {
-    let mut arguments = std::env::args().skip(1).map(|a| a.parse::<u64>().expect("a number"));
-    let minutes = arguments.next().unwrap_or(10);
-    let first = arguments.next().unwrap_or(1_000_000);
+    let arguments: Vec<String> = std::env::args().skip(1).collect();
+    let number = |at: usize, usual: u64| {
+        arguments.get(at).map_or(usual, |given| given.parse().expect("a number"))
+    };
+    match arguments.first().map(String::as_str) {
+        Some("network") => {
+            let (calls, seed) = (number(1, 1_000_000), number(2, 1));
+            let tally = network::histories(seed, calls);
+            println!("{calls} calls from seed {seed}\n{tally}");
+            network::require_all(&tally);
+        }
+        _ => every_series(number(0, 10), number(1, 1_000_000)),
+    }
+}
+
+fn every_series(minutes: u64, first: u64) {
     let until = Instant::now() + Duration::from_secs(60 * minutes);
     for seed in first.. {
         println!("seed {seed}\n{}", calls::random_calls(seed, 200_000));
@@ -17,6 +31,7 @@ fn main() {
         println!("{}", logs::random_logs(seed, 20_000));
         println!("{}", runs::random_runs(seed, 20_000, 80));
         println!("{}", runs::random_runs(seed, 20, 5_000));
+        println!("{}", network::histories(seed, 200_000));
         if Instant::now() > until {
             break;
         }

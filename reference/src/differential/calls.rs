@@ -38,7 +38,7 @@ pub fn random_calls(seed: u64, cases: u64) -> Tally {
 }
 
 /// Count or clear of the reference.
-type Send = fn(&mut [u64], u64, &mut [u8]) -> Result<replica::Sent, u64>;
+pub(super) type Send = fn(&mut [u64], u64, &mut [u8]) -> Result<replica::Sent, u64>;
 
 /// One replica twice: the reference's and the library's.
 struct Pair {

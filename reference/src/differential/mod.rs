@@ -5,12 +5,20 @@ pub mod calls;
 pub mod generate;
 pub mod logs;
 pub mod messages;
+pub mod network;
 pub mod runs;
 
 use std::collections::BTreeMap;
 use std::fmt;
 
+use crate::ledger::Ledger;
 use crate::{library, replica};
+
+/// The seed of a series: YELANSUB_SEED, or the usual one.
+pub fn seed(usual: u64) -> u64 {
+    let given = std::env::var("YELANSUB_SEED").ok();
+    given.map_or(usual, |seed| seed.parse().expect("YELANSUB_SEED is a number"))
+}
 
 /// Says where a difference was met.
 type Place<'a> = &'a dyn Fn() -> String;
@@ -24,6 +32,10 @@ pub struct Tally {
 impl Tally {
     pub fn note(&mut self, call: &'static str, number: u64) {
         *self.met.entry((call, number)).or_default() += 1;
+    }
+
+    pub fn times(&self, call: &'static str, number: u64) -> u64 {
+        self.met.get(&(call, number)).copied().unwrap_or(0)
     }
 
     /// Panics unless `call` gave each of `numbers` at least once, and nothing else.
@@ -74,6 +86,21 @@ impl<T: Copy + From<u8>> Guarded<T> {
     pub fn get_mut(&mut self) -> &mut [T] {
         let end = self.all.len() - GUARD;
         &mut self.all[GUARD..end]
+    }
+}
+
+/// A read of every counter of the card is accepted and gives the ledger's value and holders.
+fn against_ledgers(ledgers: &[Ledger], card: usize, words: &[u64], place: Place) {
+    for (counter, ledger) in ledgers.iter().enumerate() {
+        let holders = ledger.holders(card);
+        let due = library::Reading {
+            number: 0,
+            value: ledger.value(card),
+            holders,
+            holder_count: u64::from(holders.count_ones()),
+        };
+        let read = library::read(words, counter as u64);
+        assert_eq!(read, due, "card {card} counter {counter}: {}", place());
     }
 }
 

@@ -1,12 +1,12 @@
 //! Runs: random lists and sizes, and every list of a small chassis to a depth, against the
 //! reference and against the ledger of every counter.
 
-use super::{generate, number, Guarded, Place, Tally};
+use super::{against_ledgers, generate, number, Guarded, Place, Tally};
 use crate::chassis::{self, Buffers, Step, DELIVER, STEP_BYTES};
 use crate::ledger::Ledger;
 use crate::library;
 use crate::random::Random;
-use crate::replica::words_of;
+use crate::replica::{received_from, words_of};
 
 pub const RUN: &[u64] = &[0, 11];
 /// 4 needs 2^48 - 1 messages of one card first.
@@ -99,7 +99,9 @@ fn compare(lent: &Lent, place: Place, tally: &mut Tally) {
     for (step, answer) in steps.iter().zip(theirs.answers.get()) {
         feed(&mut ledgers, *step, *answer, cards, place);
     }
-    against_ledgers(&ledgers, theirs.words.get(), cards, counters, place);
+    for (card, words) in theirs.words.get().chunks_exact(words_of(cards, counters)).enumerate() {
+        against_ledgers(&ledgers, card, words, place);
+    }
     waiting_in_logs(&theirs, &ledgers[0], place);
 }
 
@@ -116,22 +118,6 @@ fn feed(ledgers: &mut [Ledger], step: Step, answer: u64, cards: usize, place: Pl
     }
 }
 
-fn against_ledgers(ledgers: &[Ledger], words: &[u64], cards: usize, counters: usize, place: Place) {
-    for (card, words) in words.chunks_exact(words_of(cards, counters)).enumerate() {
-        for (counter, ledger) in ledgers.iter().enumerate() {
-            let read = library::read(words, counter as u64);
-            let holders = ledger.holders(card);
-            let expected = library::Reading {
-                number: 0,
-                value: ledger.value(card),
-                holders,
-                holder_count: u64::from(holders.count_ones()),
-            };
-            assert_eq!(read, expected, "card {card} counter {counter}: {}", place());
-        }
-    }
-}
-
 /// On a run's own logs, the next message of every link is where `waiting` says, and take accepts
 /// it exactly when the ledger's link has something to hand over.
 fn waiting_in_logs(after: &Lent, ledger: &Ledger, place: Place) {
@@ -142,7 +128,7 @@ fn waiting_in_logs(after: &Lent, ledger: &Ledger, place: Place) {
         let words = &after.words.get()[receiver * each..][..each];
         for sender in (0..cards).filter(|sender| *sender != receiver) {
             let log = &after.logs.get()[sender * log_bytes..][..log_bytes];
-            let q = words[3 + cards + sender] + 1;
+            let q = received_from(words, sender) + 1;
             let ours = chassis::waiting(log, q);
             let theirs = library::waiting(log, q);
             let theirs = (theirs.start as usize, theirs.length as usize);
@@ -370,7 +356,10 @@ impl Search {
         if let (Some(step), Some(answer)) = (steps_of(&self.steps).last(), answers.last()) {
             feed(&mut ledgers, *step, *answer, self.cards, &place);
         }
-        against_ledgers(&ledgers, words, self.cards, self.counters, &place);
+        let each = words_of(self.cards, self.counters);
+        for (card, words) in words.chunks_exact(each).enumerate() {
+            against_ledgers(&ledgers, card, words, &place);
+        }
         ledgers
     }
 
