@@ -1,11 +1,11 @@
 //! Random calls, messages, logs and runs against the library for as long as asked, then deeper
 //! exhaustive lists: `cargo run --release --offline --bin soak -- [MINUTES] [FIRST_SEED]`.
-//! One series alone, as long as asked: `-- network [CALLS] [SEED]`.
+//! One series alone, as long as asked: `-- network [CALLS] [SEED]`, `-- alone [LISTS] [SEED]`.
 //! Each round prints its seed; a difference panics with seed and case.
 
 use std::time::{Duration, Instant};
 
-use yelansub_reference::differential::{calls, logs, messages, network, runs};
+use yelansub_reference::differential::{alone, calls, logs, messages, network, runs};
 
 fn main() {
     let arguments: Vec<String> = std::env::args().skip(1).collect();
@@ -18,6 +18,12 @@ fn main() {
             let tally = network::histories(seed, calls);
             println!("{calls} calls from seed {seed}\n{tally}");
             network::require_all(&tally);
+        }
+        Some("alone") => {
+            let (lists, seed) = (number(1, 100_000), number(2, 1));
+            let tally = alone::random_lists(seed, lists, 100);
+            println!("{lists} lists from seed {seed}\n{tally}");
+            alone::require_all(&tally, lists);
         }
         _ => every_series(number(0, 10), number(1, 1_000_000)),
     }
@@ -32,6 +38,7 @@ fn every_series(minutes: u64, first: u64) {
         println!("{}", runs::random_runs(seed, 20_000, 80));
         println!("{}", runs::random_runs(seed, 20, 5_000));
         println!("{}", network::histories(seed, 200_000));
+        println!("{}", alone::random_lists(seed, 10_000, 100));
         if Instant::now() > until {
             break;
         }

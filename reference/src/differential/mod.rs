@@ -1,6 +1,7 @@
 //! The library held against the reference and the ledger: every number, word and byte, those
 //! around the buffers included. A difference panics with the seed and the case.
 
+pub mod alone;
 pub mod calls;
 pub mod generate;
 pub mod logs;

@@ -154,24 +154,35 @@ fn right_sizes(random: &mut Random, longest: u64) -> Lent {
         11..=20 => (3, random.between(1, 2) as usize),
         _ => (random.between(1, 5) as usize, random.between(1, 3) as usize),
     };
+    let (steps, log_bytes) = list(random, cards, counters, longest);
+    let logs = log_content(random, cards, counters, log_bytes);
+    Lent {
+        cards: cards as u64,
+        counters: counters as u64,
+        log_bytes: log_bytes as u64,
+        words: Guarded::new(&random.words(cards * words_of(cards, counters))),
+        logs: Guarded::new(&logs),
+        answers: Guarded::new(&random.words(steps.len())),
+        steps: steps.iter().flat_map(|step| step.to_bytes()).collect(),
+    }
+}
+
+/// Steps, at most `longest`, and the bytes of a card's log, at times too few for them.
+pub(super) fn list(
+    random: &mut Random,
+    cards: usize,
+    counters: usize,
+    longest: u64,
+) -> (Vec<Step>, usize) {
     let len = if random.percent(5) { random.below(3) } else { random.below(longest + 1) };
-    let steps: Vec<u8> = (0..len).flat_map(|_| step(random, cards, counters).to_bytes()).collect();
+    let steps = (0..len).map(|_| step(random, cards, counters)).collect();
     let log_bytes = match random.below(8) {
         0 => random.below(40),
         1 => 36 * random.below(6),
         2 => random.below(400),
         _ => 40 * longest + random.below(9),
     };
-    let logs = log_content(random, cards, counters, log_bytes as usize);
-    Lent {
-        cards: cards as u64,
-        counters: counters as u64,
-        log_bytes,
-        words: Guarded::new(&random.words(cards * words_of(cards, counters))),
-        logs: Guarded::new(&logs),
-        answers: Guarded::new(&random.words(steps.len() / STEP_BYTES)),
-        steps,
-    }
+    (steps, log_bytes as usize)
 }
 
 /// Mostly in range; otherwise a number at an edge, or any.
@@ -195,7 +206,12 @@ fn step(random: &mut Random, cards: usize, counters: usize) -> Step {
 }
 
 /// Logs as lent: zeros, noise, or messages that read and that no card of this run has made.
-fn log_content(random: &mut Random, cards: usize, counters: usize, log_bytes: usize) -> Vec<u8> {
+pub(super) fn log_content(
+    random: &mut Random,
+    cards: usize,
+    counters: usize,
+    log_bytes: usize,
+) -> Vec<u8> {
     let len = cards * log_bytes;
     match random.below(3) {
         0 => vec![0; len],

@@ -1,0 +1,55 @@
+//! Whole isolation of a counter in the library's runs: other counters might as well not exist, but
+//! for the room in the logs.
+
+use yelansub_reference::chassis::Step;
+use yelansub_reference::differential::alone::{self, List};
+use yelansub_reference::differential::{self, Tally};
+use yelansub_reference::library::Reading;
+use yelansub_reference::random::Random;
+
+#[test]
+fn every_counter_alone_is_accepted_and_reads_the_same() {
+    let (seed, lists) = (differential::seed(20_260_501), 10_000);
+    let tally = alone::random_lists(seed, lists, 60);
+    println!("{lists} lists from seed {seed}, every counter of each\n{tally}");
+    alone::require_all(&tally, lists);
+}
+
+#[test]
+fn counters_share_a_log_and_what_was_accepted_stands_alone() {
+    // Room for two increments: counter 1 leaves none for counter 0's second count, and card 1's
+    // clear of counter 0 none for that of counter 1.
+    let list =
+        |steps: &[Step]| List { cards: 2, counters: 2, log_bytes: 72, steps: steps.to_vec() };
+    let both = list(&[
+        Step::count(0, 0),
+        Step::count(0, 1),
+        Step::count(0, 0),
+        Step::deliver(1, 0),
+        Step::clear(1, 0),
+        Step::deliver(1, 0),
+        Step::deliver(1, 0),
+        Step::clear(1, 1),
+    ]);
+    let random = &mut Random::new(1);
+    let after = both.run(random);
+    assert_eq!(after.answers, [0, 0, 14, 0, 0, 0, 13, 14]);
+
+    // So a list without counter 1 is answered otherwise, and read otherwise.
+    let count_twice = [Step::count(0, 0), Step::count(0, 0), Step::deliver(1, 0)];
+    let without = list(&[&count_twice[..], &[Step::clear(1, 0)]].concat());
+    let after_without = without.run(random);
+    assert_eq!(after_without.answers, [0, 0, 0, 0]);
+    assert_eq!(values(&without.reads(&after_without, 0)), [2, 0]);
+    assert_eq!(values(&both.reads(&after, 0)), [1, 0]);
+
+    // But the steps that were accepted need no other counter to be so.
+    let own = both.own(&after, 0).steps;
+    assert_eq!(own, [Step::count(0, 0), Step::deliver(1, 0), Step::clear(1, 0)]);
+    assert_eq!(both.own(&after, 1).steps, [Step::count(0, 1), Step::deliver(1, 0)]);
+    both.check(random, &|| "two counters".into(), &mut Tally::default());
+}
+
+fn values(reads: &[Reading]) -> Vec<u64> {
+    reads.iter().map(|read| read.value).collect()
+}
