@@ -250,7 +250,7 @@ module _ (s : List ℕ) (h : reads s ≡ true) where
     pub few : message-at s .len ≤ card-limit
     pub entries : entries-at (int-at s 24) s 28 ≡ take (message-at s .len) (message-at s .entries)
 
-  pub clear-read : (header : Header) → header ≡ header-at s → header .kind ≡ clear-kind → ClearRead header
+  pub clear-read : (header : Header) → header ≡ header-at s 0 → header .kind ≡ clear-kind → ClearRead header
   unfolding clear-message
   clear-read header same kind =
       let read = header-read s header same in

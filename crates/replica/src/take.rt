@@ -114,7 +114,7 @@ fn take_increment(words: &mut [u64], header: Header, body: Increment) -> Taken
 
 // A clear, likewise. The message is held whole, and made and judged in one loop: a function that it is passed to or returned from copies it.
 fn take_clear(words: &mut [u64], message: &[u8], header: Header) -> Taken
-    requires { ⌜ (right (now words) ≡ true) × (reads (now message) ≡ true) × (header ≡ header-at (now message)) × (header .kind ≡ 2) ⌝ }
+    requires { ⌜ (right (now words) ≡ true) × (reads (now message) ≡ true) × (header ≡ header-at (now message) 0) × (header .kind ≡ 2) ⌝ }
     ensures { λ a. ⌜ _≡_ {A = TakeOutcome} (record { answer = a; words = now (words .exit) }) (taking (now (words .entry)) (message-at (now (message .entry)))) ⌝ }
 {
     let r = words::cards_of(words);
@@ -122,7 +122,8 @@ fn take_clear(words: &mut [u64], message: &[u8], header: Header) -> Taken
     let sender = header.sender as usize;
     let ours = increments_of(words, r, own);
     let theirs = increments_of(words, r, sender);
-    let len = decode::entry_count(message, wire::CLEAR);
+    let count = reader::next_int(message, header.behind);
+    let len = count.number as usize;
     let mut m = Message {
         version: wire::VERSION,
         kind: wire::CLEAR,
@@ -136,12 +137,15 @@ fn take_clear(words: &mut [u64], message: &[u8], header: Header) -> Taken
     };
     let mut below = true;
     let mut plausible = true;
+    let mut place = count.behind;
     let mut i: usize = 0;
     while i < len {
-        let e = decode::entry_of(message, i);
+        let read = reader::entry_from(message, place);
+        let e = read.entry;
         m.entries[i] = e;
         below = below & is_card_below(e, r);
         plausible = plausible & is_entry_plausible(e, own, ours, sender, theirs);
+        place = read.behind;
         i += 1;
     }
     let refusal = refusal_of(words, header.counter, header.sender, header.sequence, below);
@@ -169,10 +173,10 @@ pub fn take(words: &mut [u64], message: &[u8]) -> Taken
     if !decode::reads(message) {
         return refused(protocol::UNREADABLE);
     }
-    let header = reader::header_from(message);
+    let header = reader::header_from(message, 0);
     if header.kind == wire::CLEAR {
         return take_clear(words, message, header);
     }
-    let body = reader::increment_from(message, wire::P_AT);
+    let body = reader::increment_from(message, header.behind);
     take_increment(words, header, body)
 }

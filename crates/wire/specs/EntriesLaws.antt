@@ -47,30 +47,29 @@ unfolding entries-at
 length-entries-at zero s at = refl
 length-entries-at (suc count) s at = ap suc (length-entries-at count s (at + 20))
 
--- a turn stores the next entry into the sixteen places
-pub entries-stored : (i : ℕ) (s : List ℕ) (at : ℕ) → i < 16
-    → set (entries-at i s at ++ replicate (16 - i) no-entry) i (entry-at s (at + 20 * i)) ≡ entries-at (i + 1) s at ++ replicate (16 - (i + 1)) no-entry
-entries-stored i s at more =
+-- a turn stores the next entry, from the place that it stands at, into the sixteen places
+pub entries-stored : (i : ℕ) (s : List ℕ) (at place : ℕ) → i < 16 → place ≡ at + 20 * i
+    → set (entries-at i s at ++ replicate (16 - i) no-entry) i (entry-at s place) ≡ entries-at (i + 1) s at ++ replicate (16 - (i + 1)) no-entry
+entries-stored i s at place more here =
     let left : 16 - i ≡ suc (16 - (i + 1)) = omega arith in
-    rw left (set-at (entries-at i s at) no-entry (replicate (16 - (i + 1)) no-entry) (entry-at s (at + 20 * i)) i (length-entries-at i s at)
+    rw (left, here) (set-at (entries-at i s at) no-entry (replicate (16 - (i + 1)) no-entry) (entry-at s (at + 20 * i)) i (length-entries-at i s at)
     ∙ rw (add-one i, entries-at-more i s at, append-assoc))
 
 -- and tests it: all entries left are in range where this one is and those past it are
-entries-next : (low i count : ℕ) (s : List ℕ) (at : ℕ) → i < count
-    → entries-in-range low (entries-at (count - i) s (at + 20 * i))
-    ≡ entry-in-range low (entry-at s (at + 20 * i)) && entries-in-range (entry-at s (at + 20 * i) .card + 1) (entries-at (count - (i + 1)) s (at + 20 * (i + 1)))
+entries-next : (low i count : ℕ) (s : List ℕ) (place : ℕ) → i < count
+    → entries-in-range low (entries-at (count - i) s place)
+    ≡ entry-in-range low (entry-at s place) && entries-in-range (entry-at s place .card + 1) (entries-at (count - (i + 1)) s (place + 20))
 unfolding entries-at entries-in-range
-entries-next low i count s at more =
+entries-next low i count s place more =
     let left : count - i ≡ suc (count - (i + 1)) = omega arith in
-    let place : at + 20 * (i + 1) ≡ at + 20 * i + 20 = omega arith in
-    rw (left, place)
+    rw left
 
-module _ (all : Bool) (low i count : ℕ) (s : List ℕ) (at : ℕ) (e : ClearEntry) (more : i < count) (read : e ≡ entry-at s (at + 20 * i)) (before : entries-in-range low (entries-at (count - i) s (at + 20 * i)) ≡ all) where
-  pub entries-passed : (next : ℕ) → entry-in-range low e ≡ true → next ≡ e .card + 1 → entries-in-range next (entries-at (count - (i + 1)) s (at + 20 * (i + 1))) ≡ all
-  entries-passed next fits follows = rw (follows, ap (λ (x : ClearEntry). x .card) read) (rw (entries-next low i count s at more, ← read, fits) at before)
+module _ (all : Bool) (low i count : ℕ) (s : List ℕ) (place : ℕ) (e : ClearEntry) (more : i < count) (read : e ≡ entry-at s place) (before : entries-in-range low (entries-at (count - i) s place) ≡ all) where
+  pub entries-passed : (next behind : ℕ) → entry-in-range low e ≡ true → next ≡ e .card + 1 → behind ≡ place + 20 → entries-in-range next (entries-at (count - (i + 1)) s behind) ≡ all
+  entries-passed next behind fits follows moved = rw (follows, moved, ap (λ (x : ClearEntry). x .card) read) (rw (entries-next low i count s place more, ← read, fits) at before)
 
   pub entries-failed : entry-in-range low e ≡ false → false ≡ all
-  entries-failed fails = rw (entries-next low i count s at more, ← read, fails) at before
+  entries-failed fails = rw (entries-next low i count s place more, ← read, fails) at before
 
 -- ---- testing the sixteen places
 

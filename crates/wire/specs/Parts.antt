@@ -1,30 +1,25 @@
--- DEFINITIONS. The parts of a message as they stand in the bytes, each number where the one before it ends (document 01, "Message").
-use Prim.Native.Nat.{ℕ, _+_, _-_}
+-- DEFINITIONS. The parts of a message as they stand in the bytes from a position on, each number where the one before it ends, and the position behind each part (document 01, "Message").
+use Prim.Native.Nat.{ℕ, _+_}
 use mathlib.Core.List.{List}
-use mathlib.Core.Bool.{cond}
-use lib.ListN.{length}
-use lib.Dec.{eqb}
 use Rattle.wire.specs.Number.{int-at, hyper-at}
-use Rattle.wire.specs.Message.{clear-kind}
+use Rattle.wire.specs.Message.{entry-at}
 pub use Rattle.wire.specs.declared.reader.Header.{Header}
 pub use Rattle.wire.specs.declared.reader.Increment.{Increment}
+pub use Rattle.wire.specs.declared.reader.EntryRead.{EntryRead}
 
-abbrev pub header-at : List ℕ → Header
-header-at s = record {
-  version = int-at s 0;
-  kind = int-at s 4;
-  sender = int-at s 8;
-  sequence = hyper-at s 12;
-  counter = int-at s 20;
-  left = length s - 24;
+abbrev pub header-at : List ℕ → ℕ → Header
+header-at s at = record {
+  version = int-at s at;
+  kind = int-at s (at + 4);
+  sender = int-at s (at + 8);
+  sequence = hyper-at s (at + 12);
+  counter = int-at s (at + 20);
+  behind = at + 24;
 }
 
+-- what an increment has behind its header
 abbrev pub increment-at : List ℕ → ℕ → Increment
-increment-at s at = record { p = hyper-at s at; start = int-at s (at + 8) }
+increment-at s at = record { p = hyper-at s at; start = int-at s (at + 8); behind = at + 12 }
 
--- what stands behind the header: how many entries, and p and start, zero where the kind has none
-abbrev pub entry-count : ℕ → List ℕ → ℕ
-entry-count kind s = cond (eqb kind clear-kind) (int-at s 24) 0
-
-abbrev pub increment-part : ℕ → List ℕ → Increment
-increment-part kind s = cond (eqb kind clear-kind) (record { p = 0; start = 0 }) (increment-at s 24)
+abbrev pub entry-read-at : List ℕ → ℕ → EntryRead
+entry-read-at s at = record { entry = entry-at s at; behind = at + 20 }

@@ -1,32 +1,50 @@
 -- LAWS. The numbers of a part that was read, one by one. Assumes nothing.
 use mathlib.Core.Path.{_≡_, ap}
-use Prim.Native.Nat.{ℕ, _+_, _-_}
+use Prim.Native.Nat.{ℕ, _+_}
 use mathlib.Core.List.{List}
-use lib.ListN.{length}
 use Rattle.wire.specs.Number.{int-at, hyper-at}
-use Rattle.wire.specs.Parts.{Header, Increment, header-at, increment-at}
+use Rattle.wire.specs.Message.{entry-at}
+use Rattle.wire.specs.Parts.{Header, Increment, EntryRead, header-at, increment-at, entry-read-at}
 
+-- of the header at the front
 pub record HeaderRead (s : List ℕ) (h : Header) : Type 0 where
   pub version : h .version ≡ int-at s 0
   pub kind : h .kind ≡ int-at s 4
   pub sender : h .sender ≡ int-at s 8
   pub sequence : h .sequence ≡ hyper-at s 12
   pub counter : h .counter ≡ int-at s 20
-  pub left : h .left ≡ length s - 24
+  pub behind : h .behind ≡ 24
 
-pub header-read : (s : List ℕ) (h : Header) → h ≡ header-at s → HeaderRead s h
+pub header-read : (s : List ℕ) (h : Header) → h ≡ header-at s 0 → HeaderRead s h
 header-read s h e = record {
   version = ap (λ (g : Header). g .version) e;
   kind = ap (λ (g : Header). g .kind) e;
   sender = ap (λ (g : Header). g .sender) e;
   sequence = ap (λ (g : Header). g .sequence) e;
   counter = ap (λ (g : Header). g .counter) e;
-  left = ap (λ (g : Header). g .left) e;
+  behind = ap (λ (g : Header). g .behind) e;
 }
 
-pub record IncrementRead (s : List ℕ) (at : ℕ) (b : Increment) : Type 0 where
-  pub p : b .p ≡ hyper-at s at
-  pub start : b .start ≡ int-at s (at + 8)
+-- what stands behind it: p and start of an increment, the length word of a clear
+module _ (s : List ℕ) (h : Header) (header : h ≡ header-at s 0) where
+  pub record IncrementRead (b : Increment) : Type 0 where
+    pub p : b .p ≡ hyper-at s 24
+    pub start : b .start ≡ int-at s 32
 
-pub increment-read : (s : List ℕ) (at : ℕ) (b : Increment) → b ≡ increment-at s at → IncrementRead s at b
-increment-read s at b e = record { p = ap (λ (g : Increment). g .p) e; start = ap (λ (g : Increment). g .start) e }
+  pub increment-read : (b : Increment) → b ≡ increment-at s (h .behind) → IncrementRead b
+  increment-read b e =
+      let front = rw (header-read s h header .behind) at e in
+      record { p = ap (λ (g : Increment). g .p) front; start = ap (λ (g : Increment). g .start) front }
+
+  pub record CountRead (n at : ℕ) : Type 0 where
+    pub number : n ≡ int-at s 24
+    pub behind : at ≡ 28
+
+  pub count-read : (n at : ℕ) → (n ≡ int-at s (h .behind)) × (at ≡ h .behind + 4) → CountRead n at
+  count-read n at e =
+      let front = header-read s h header .behind in
+      record { number = rw front at (e .0); behind = rw front at (e .1) }
+
+-- an entry, wherever it stands
+pub entry-part : (s : List ℕ) (at : ℕ) (r : EntryRead) → r ≡ entry-read-at s at → (r .entry ≡ entry-at s at) × (r .behind ≡ at + 20)
+entry-part s at r e = (ap (λ (g : EntryRead). g .entry) e, ap (λ (g : EntryRead). g .behind) e)

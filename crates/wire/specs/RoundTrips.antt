@@ -14,7 +14,6 @@ use Rattle.protocol.specs.declared.ClearEntry.{ClearEntry}
 use Rattle.protocol.specs.Cases.{by-place, by-test, and-left, and-right}
 use Rattle.wire.specs.Number.{number-at, bytes-of, int-at, hyper-at, unsigned-int, unsigned-hyper}
 use Rattle.wire.specs.Message.{Message, Reading, version-1, increment-kind, clear-kind, no-entry, header-bytes, increment-bytes, entry-bytes, entries-bytes, clear-bytes, message-bytes, message-length, increment-message, clear-message, entries-in-range, in-range, entry-at, entries-at, called-length, message-at, reads, read-message, front-length}
-use Rattle.wire.specs.Parts.{entry-count, increment-part}
 use Rattle.wire.specs.Lists.{parts-join}
 use Rattle.wire.specs.NumberLaws.{Bytes, length-bytes-of, number-at-left, number-at-right, number-at-bytes-of, bytes-of-number-at}
 use Rattle.wire.specs.EntriesLaws.{entries-at-more, length-entries-at, length-entries-bytes}
@@ -349,39 +348,29 @@ pub read-increment : (s : List ℕ) → (int-at s 4 ≡ clear-kind → ⊥) → 
 unfolding message-at
 read-increment s other = rw (ne-eqb (int-at s 4) clear-kind other)
 
--- its entries stand in the bytes, and are not too many
-pub read-count : (s : List ℕ) → reads s ≡ true → (entry-count (int-at s 4) s ≤ card-limit) × (28 + 20 * entry-count (int-at s 4) s ≤ length s)
+-- the entries of a clear stand in the bytes, and are not too many
+pub read-count : (s : List ℕ) → reads s ≡ true → int-at s 4 ≡ clear-kind → (int-at s 24 ≤ card-limit) × (length s ≡ 28 + 20 * int-at s 24)
 unfolding called-length clear-message
-read-count s h =
-    by-place (int-at s 4) clear-kind
-    (λ kind.
+read-count s h kind =
     let few = rw (read-clear s kind, length-entries-at (int-at s 24) s 28) at (len-few (message-at s) (readable s h .fits)) in
-    let exact : length s ≡ 28 + 20 * int-at s 24 = readable s h .exact ∙ rw kind in
-    rw kind (few, omega (arith, exact)))
-    (λ other. rw (ne-eqb (int-at s 4) clear-kind other) (omega arith, omega (arith, read-long s h)))
+    (few, readable s h .exact ∙ rw kind)
 
--- and it is made of its parts
-module _ (s : List ℕ) (h : reads s ≡ true) where
-  pub read-parts : let n = entry-count (int-at s 4) s in let body = increment-part (int-at s 4) s in
-      _≡_ {A = Message} (record {
-        version = version-1;
-        kind = int-at s 4;
-        sender = int-at s 8;
-        sequence = hyper-at s 12;
-        counter = int-at s 20;
-        p = body .p;
-        start = body .start;
-        len = n;
-        entries = entries-at n s 28 ++ replicate (16 - n) no-entry;
-      })
-      (message-at s)
-  unfolding clear-message increment-message entries-at
-  read-parts =
-      by-place (int-at s 4) clear-kind
-      (λ kind. rw (read-clear s kind, kind, length-entries-at (int-at s 24) s 28))
-      (λ other.
-      let kind = kind-other (int-at s 4) (readable s h .kind) other in
-      rw (read-increment s other, ne-eqb (int-at s 4) clear-kind other, kind))
+-- and it is made of its header and of them
+pub clear-parts : (s : List ℕ) → int-at s 4 ≡ clear-kind → let n = int-at s 24 in
+    _≡_ {A = Message} (record {
+      version = version-1;
+      kind = clear-kind;
+      sender = int-at s 8;
+      sequence = hyper-at s 12;
+      counter = int-at s 20;
+      p = 0;
+      start = 0;
+      len = n;
+      entries = entries-at n s 28 ++ replicate (16 - n) no-entry;
+    })
+    (message-at s)
+unfolding clear-message
+clear-parts s kind = rw (read-clear s kind, length-entries-at (int-at s 24) s 28)
 
 -- an answer with a message says that the bytes read as it
 pub read-as : (s : List ℕ) (m : Message) → read-message s ≡ accepted m → (reads s ≡ true) × (message-at s ≡ m)

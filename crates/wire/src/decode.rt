@@ -1,26 +1,23 @@
-// Bytes to a message. The public calls are `read_message` and `front_length`; `reads`, `entry_count`, `entry_of` and `called_length_of` are inner doors
-// for callers that test the bytes first and hold no more of them than they need.
+// Bytes to a message. Each part is read from the position that the part before it answered. The public calls are `read_message` and
+// `front_length`; `reads` and `called_length_of` are inner doors for callers that test the bytes first and hold no more of them than they need.
 use crate::CLEAR;
-use crate::ENTRIES_AT;
+use crate::EMPTY_CLEAR_LENGTH;
 use crate::ENTRY_LENGTH;
 use crate::INCREMENT;
 use crate::INCREMENT_LENGTH;
-use crate::LEN_AT;
 use crate::Message;
-use crate::P_AT;
 use crate::Reading;
 use crate::VERSION;
 use crate::range;
 use crate::reader;
 use crate::reader::Header;
-use crate::reader::Increment;
 use protocol::ClearEntry;
 ghost use mathlib.Core.Path.{_≡_};
 ghost use mathlib.Core.Bool.{true};
 ghost use Prim.Native.Nat.{_+_, _*_, _≤_};
 ghost use lib.ListN.{length};
-ghost use Rattle.wire.specs.Message.{entry-at, entries-at, entries-in-range, called-length, message-at, reads, read-message, front-length};
-ghost use Rattle.wire.specs.Parts.{header-at, entry-count, increment-part};
+ghost use Rattle.wire.specs.Message.{entries-at, entries-in-range, called-length, message-at, reads, read-message, front-length};
+ghost use Rattle.wire.specs.Parts.{header-at};
 ghost use Rattle.wire.specs.MessageLaws.{refused};
 
 const NO_ENTRY: ClearEntry = ClearEntry {
@@ -30,47 +27,52 @@ const NO_ENTRY: ClearEntry = ClearEntry {
 };
 
 fn does_increment_read(bytes: &[u8], header: Header) -> bool
-    requires { ⌜ (header ≡ header-at (now bytes)) × (header .version ≡ 1) × (header .kind ≡ 1) ⌝ }
+    requires { ⌜ (header ≡ header-at (now bytes) 0) × (header .version ≡ 1) × (header .kind ≡ 1) ⌝ }
     ensures { λ a. ⌜ a ≡ reads (now (bytes .entry)) ⌝ }
 {
-    if header.left != INCREMENT_LENGTH - P_AT {
+    if bytes.len() != INCREMENT_LENGTH {
         return false;
     }
-    let body = reader::increment_from(bytes, P_AT);
+    let body = reader::increment_from(bytes, header.behind);
     range::header_in_range(VERSION, header.sender, header.sequence, header.counter)
         & range::body_in_range(INCREMENT, body.p, body.start, 0)
 }
 
-fn are_entries_in_range(bytes: &[u8], count: usize) -> bool
-    requires { ⌜ (count ≤ 16) × (28 + 20 * count ≤ length (now bytes)) ⌝ }
-    ensures { λ a. ⌜ a ≡ entries-in-range 0 (entries-at count (now (bytes .entry)) 28) ⌝ }
+// The entries from `at` on.
+fn are_entries_in_range(bytes: &[u8], at: usize, count: usize) -> bool
+    requires { ⌜ at + 20 * count ≤ length (now bytes) ⌝ }
+    ensures { λ a. ⌜ a ≡ entries-in-range 0 (entries-at count (now (bytes .entry)) at) ⌝ }
 {
     let mut low: u64 = 0;
+    let mut place = at;
     let mut i: usize = 0;
     while i < count {
-        let entry = entry_of(bytes, i);
+        let read = reader::entry_from(bytes, place);
+        let entry = read.entry;
         if !range::entry_in_range(low, entry) {
             return false;
         }
         low = range::next_card(entry);
+        place = read.behind;
         i += 1;
     }
     true
 }
 
 fn does_clear_read(bytes: &[u8], header: Header) -> bool
-    requires { ⌜ (header ≡ header-at (now bytes)) × (header .version ≡ 1) × (header .kind ≡ 2) × (28 ≤ length (now bytes)) ⌝ }
+    requires { ⌜ (header ≡ header-at (now bytes) 0) × (header .version ≡ 1) × (header .kind ≡ 2) × (28 ≤ length (now bytes)) ⌝ }
     ensures { λ a. ⌜ a ≡ reads (now (bytes .entry)) ⌝ }
 {
-    let count = reader::len_from(bytes, LEN_AT) as usize;
-    if range::MOST_ENTRIES < count {
+    let count = reader::next_int(bytes, header.behind);
+    let len = count.number as usize;
+    if range::MOST_ENTRIES < len {
         return false;
     }
-    if header.left != ENTRIES_AT + ENTRY_LENGTH * count - LEN_AT {
+    if bytes.len() != EMPTY_CLEAR_LENGTH + ENTRY_LENGTH * len {
         return false;
     }
     range::header_in_range(VERSION, header.sender, header.sequence, header.counter)
-        & are_entries_in_range(bytes, count)
+        & are_entries_in_range(bytes, count.behind, len)
 }
 
 // Inner door: whether the bytes are a message. It holds no message, so that a walk over a log costs no struct.
@@ -79,10 +81,10 @@ fn does_clear_read(bytes: &[u8], header: Header) -> bool
 pub fn reads(bytes: &[u8]) -> bool
     ensures { λ a. ⌜ a ≡ reads (now (bytes .entry)) ⌝ }
 {
-    if bytes.len() < ENTRIES_AT {
+    if bytes.len() < EMPTY_CLEAR_LENGTH {
         return false;
     }
-    let header = reader::header_from(bytes);
+    let header = reader::header_from(bytes, 0);
     if header.version != VERSION {
         return false;
     }
@@ -95,62 +97,63 @@ pub fn reads(bytes: &[u8]) -> bool
     false
 }
 
-// Inner door: how many entries stand behind the header, none in an increment.
-// Ruled out: the length word of an increment, which is a part of its p, and a count of the bytes.
-pub fn entry_count(bytes: &[u8], kind: u32) -> usize
-    requires { ⌜ 28 ≤ length (now bytes) ⌝ }
-    ensures { λ a. ⌜ a ≡ entry-count kind (now (bytes .entry)) ⌝ }
-{
-    if kind == CLEAR {
-        return reader::len_from(bytes, LEN_AT) as usize;
-    }
-    0
-}
-
-// What an increment has behind the header, zeros in a clear.
-fn increment_part(bytes: &[u8], kind: u32) -> Increment
-    requires { ⌜ ((kind ≡ 2 → ⊥) → 36 ≤ length (now bytes)) ⌝ }
-    ensures { λ a. ⌜ a ≡ increment-part kind (now (bytes .entry)) ⌝ }
-{
-    if kind == CLEAR {
-        return Increment { p: 0, start: 0 };
-    }
-    reader::increment_from(bytes, P_AT)
-}
-
-// Inner door: entry number i of a clear.
-// Ruled out: the entry before it, and one read across the end of another.
-pub fn entry_of(bytes: &[u8], i: usize) -> ClearEntry
-    requires { ⌜ (i ≤ 16) × (28 + 20 * i + 20 ≤ length (now bytes)) ⌝ }
-    ensures { λ a. ⌜ a ≡ entry-at (now (bytes .entry)) (28 + 20 * i) ⌝ }
-{
-    reader::entry_from(bytes, ENTRIES_AT + ENTRY_LENGTH * i)
-}
-
-// The message that bytes stand for, where they read, with all of its entries.
-fn message_from(bytes: &[u8], header: Header) -> Message
-    requires { ⌜ (reads (now bytes) ≡ true) × (header ≡ header-at (now bytes)) ⌝ }
+// The message that bytes stand for, where they read.
+fn increment_message(bytes: &[u8], header: Header) -> Message
+    requires { ⌜ (reads (now bytes) ≡ true) × (header ≡ header-at (now bytes) 0) × (header .kind ≡ 2 → ⊥) ⌝ }
     ensures { λ m. ⌜ m ≡ message-at (now (bytes .entry)) ⌝ }
 {
-    let count = entry_count(bytes, header.kind);
-    let body = increment_part(bytes, header.kind);
-    let mut m = Message {
+    let body = reader::increment_from(bytes, header.behind);
+    Message {
         version: VERSION,
-        kind: header.kind,
+        kind: INCREMENT,
         sender: header.sender,
         sequence: header.sequence,
         counter: header.counter,
         p: body.p,
         start: body.start,
-        len: count,
+        len: 0,
+        entries: [NO_ENTRY; range::MOST_ENTRIES],
+    }
+}
+
+// "Once read, a clear message is held whole, with all of its entries."
+fn clear_message(bytes: &[u8], header: Header) -> Message
+    requires { ⌜ (reads (now bytes) ≡ true) × (header ≡ header-at (now bytes) 0) × (header .kind ≡ 2) ⌝ }
+    ensures { λ m. ⌜ m ≡ message-at (now (bytes .entry)) ⌝ }
+{
+    let count = reader::next_int(bytes, header.behind);
+    let len = count.number as usize;
+    let mut m = Message {
+        version: VERSION,
+        kind: CLEAR,
+        sender: header.sender,
+        sequence: header.sequence,
+        counter: header.counter,
+        p: 0,
+        start: 0,
+        len,
         entries: [NO_ENTRY; range::MOST_ENTRIES],
     };
+    let mut place = count.behind;
     let mut i: usize = 0;
-    while i < count {
-        m.entries[i] = entry_of(bytes, i);
+    while i < len {
+        let read = reader::entry_from(bytes, place);
+        let entry = read.entry;
+        m.entries[i] = entry;
+        place = read.behind;
         i += 1;
     }
     m
+}
+
+fn message_from(bytes: &[u8], header: Header) -> Message
+    requires { ⌜ (reads (now bytes) ≡ true) × (header ≡ header-at (now bytes) 0) ⌝ }
+    ensures { λ m. ⌜ m ≡ message-at (now (bytes .entry)) ⌝ }
+{
+    if header.kind == CLEAR {
+        return clear_message(bytes, header);
+    }
+    increment_message(bytes, header)
 }
 
 fn refuse() -> Reading
@@ -180,7 +183,7 @@ pub fn read_message(bytes: &[u8]) -> Reading
     ensures { λ r. ⌜ r ≡ read-message (now (bytes .entry)) ⌝ }
 {
     if reads(bytes) {
-        let message = message_from(bytes, reader::header_from(bytes));
+        let message = message_from(bytes, reader::header_from(bytes, 0));
         return Reading { number: 0, message };
     }
     refuse()
@@ -192,10 +195,11 @@ pub fn called_length_of(bytes: &[u8]) -> usize
     requires { ⌜ 28 ≤ length (now bytes) ⌝ }
     ensures { λ r. ⌜ r ≡ called-length (now (bytes .entry)) ⌝ }
 {
-    let header = reader::header_from(bytes);
+    let header = reader::header_from(bytes, 0);
     if header.kind == CLEAR {
-        let count = reader::len_from(bytes, LEN_AT) as usize;
-        return ENTRIES_AT + ENTRY_LENGTH * count;
+        let count = reader::next_int(bytes, header.behind);
+        let len = count.number as usize;
+        return EMPTY_CLEAR_LENGTH + ENTRY_LENGTH * len;
     }
     INCREMENT_LENGTH
 }
@@ -205,7 +209,7 @@ pub fn called_length_of(bytes: &[u8]) -> usize
 pub fn front_length(bytes: &[u8]) -> usize
     ensures { λ r. ⌜ (r ≡ front-length (now (bytes .entry))) × (r ≤ length (now (bytes .entry))) ⌝ }
 {
-    if bytes.len() < ENTRIES_AT {
+    if bytes.len() < EMPTY_CLEAR_LENGTH {
         return 0;
     }
     let called = called_length_of(bytes);

@@ -1,19 +1,10 @@
 // A message to bytes. `write_message` tests before it writes, so a refusal leaves every byte.
 use crate::CLEAR;
-use crate::COUNTER_AT;
-use crate::ENTRIES_AT;
-use crate::ENTRY_C_AT;
+use crate::EMPTY_CLEAR_LENGTH;
 use crate::ENTRY_LENGTH;
-use crate::ENTRY_P_AT;
 use crate::INCREMENT;
 use crate::INCREMENT_LENGTH;
-use crate::KIND_AT;
-use crate::LEN_AT;
 use crate::Message;
-use crate::P_AT;
-use crate::SENDER_AT;
-use crate::SEQUENCE_AT;
-use crate::START_AT;
 use crate::VERSION;
 use crate::Written;
 use crate::number;
@@ -29,6 +20,27 @@ ghost use lib.Seq.{sets};
 ghost use Rattle.wire.specs.Number.{unsigned-int, unsigned-hyper};
 ghost use Rattle.wire.specs.Message.{WriteOutcome, over, message-bytes, increment-message, write-message};
 ghost use Rattle.wire.specs.Ranges.{entry-fits};
+
+// Where the fields are written: an increment has p and start after the header, a clear its length word and its entries.
+const KIND_AT: usize = 4;
+
+const SENDER_AT: usize = 8;
+
+const SEQUENCE_AT: usize = 12;
+
+const COUNTER_AT: usize = 20;
+
+const P_AT: usize = 24;
+
+const START_AT: usize = 32;
+
+const LEN_AT: usize = 24;
+
+const ENTRIES_AT: usize = 28;
+
+const ENTRY_P_AT: usize = 4;
+
+const ENTRY_C_AT: usize = 12;
 
 fn put_header(version: u32, kind: u32, sender: u32, sequence: u64, counter: u32, out: &mut [u8])
     requires { ⌜ 24 ≤ length (now out) ⌝ }
@@ -89,7 +101,7 @@ pub fn length_of(kind: u32, len: usize) -> usize
     ensures { λ r. ⌜ r ≡ cond (eqb kind 2) (28 + 20 * len) 36 ⌝ }
 {
     if kind == CLEAR {
-        return ENTRIES_AT + ENTRY_LENGTH * len;
+        return EMPTY_CLEAR_LENGTH + ENTRY_LENGTH * len;
     }
     INCREMENT_LENGTH
 }

@@ -14,30 +14,12 @@ pub const INCREMENT: u32 = 1;
 
 pub const CLEAR: u32 = 2;
 
-// Where the fields stand, and the lengths of the parts. An increment has p and start after the header, a clear its length word and its entries.
-const KIND_AT: usize = 4;
+// The lengths of an increment, of a clear without entries and of an entry.
+pub const INCREMENT_LENGTH: usize = 36;
 
-const SENDER_AT: usize = 8;
-
-const SEQUENCE_AT: usize = 12;
-
-const COUNTER_AT: usize = 20;
-
-pub const P_AT: usize = 24;
-
-const START_AT: usize = 32;
-
-const LEN_AT: usize = 24;
-
-const ENTRIES_AT: usize = 28;
+const EMPTY_CLEAR_LENGTH: usize = 28;
 
 const ENTRY_LENGTH: usize = 20;
-
-const ENTRY_P_AT: usize = 4;
-
-const ENTRY_C_AT: usize = 12;
-
-pub const INCREMENT_LENGTH: usize = 36;
 
 // A message held whole: kind 1 uses `p` and `start`, kind 2 the first `len` entries. What its kind does not use is zero.
 #[repr(C)]

@@ -42,6 +42,18 @@ pub fn read_u64(s: &[u8], at: usize) -> u64
     read_number(s, at, 8)
 }
 
+// A number of either width. That of 8 bytes has a function of its own, in which the compiler unrolls the loop and makes one load of eight; where
+// it learns the width only later, it makes one load of four bytes, and not of eight.
+pub(crate) fn read_width(s: &[u8], at: usize, width: usize) -> u64
+    requires { ⌜ (width ≤ 8) × (at + width ≤ length (now s)) ⌝ }
+    ensures { λ r. ⌜ r ≡ number-at width (now (s .entry)) at ⌝ }
+{
+    if width == 8 {
+        return read_u64(s, at);
+    }
+    read_number(s, at, width)
+}
+
 // Writes `x` into the `width` bytes from `at` on, the last byte first.
 fn write_number(out: &mut [u8], at: usize, width: usize, x: u64)
     requires { ⌜ at + width ≤ length (now out) ⌝ }

@@ -1,38 +1,56 @@
 // A message is read through a reader: the caller's bytes, and a position in them that only moves forward ("The reader walks the bytes from a
 // position that only moves forward"). The borrow checker covers no function over such a struct, so each is thin and its proof a walk by
-// hand: it takes the struct apart and leaves the work to `number`. The functions with plain parameters below them read one part of a
-// message each, and their callers need no walk. All are inner doors: the callers have tested the length.
+// hand: it takes the struct apart and leaves the work to `number`. `next` reads one number through a reader and answers the position behind
+// it; what reads a part of a message begins each number where the one before it ended, answers the position behind the part, and needs no
+// walk. All are inner doors: the callers have tested the length.
 use crate::number;
 use protocol::ClearEntry;
 ghost use mathlib.Core.Path.{_≡_};
 ghost use Prim.Native.Nat.{_+_, _≤_};
 ghost use lib.ListN.{length};
-ghost use Rattle.wire.specs.Number.{int-at, hyper-at};
-ghost use Rattle.wire.specs.Message.{entry-at};
-ghost use Rattle.wire.specs.Parts.{header-at, increment-at};
+ghost use Rattle.wire.specs.Number.{number-at, int-at};
+ghost use Rattle.wire.specs.Parts.{header-at, increment-at, entry-read-at};
 
 pub(crate) struct Reader<'a> {
     pub src: &'a [u8],
     pub at: usize,
 }
 
-// The numbers that every message starts with, and how many bytes are left after them.
+// A number, and the position behind it.
+pub(crate) struct NumberRead {
+    pub number: u64,
+    pub behind: usize,
+}
+
+pub struct IntRead {
+    pub number: u32,
+    pub behind: usize,
+}
+
+// The numbers that every message starts with, and the position behind them.
 pub struct Header {
     pub version: u32,
     pub kind: u32,
     pub sender: u32,
     pub sequence: u64,
     pub counter: u32,
-    pub left: usize,
+    pub behind: usize,
 }
 
-// What an increment has after its header.
+// What an increment has after its header, and the position behind it.
 pub struct Increment {
     pub p: u64,
     pub start: u32,
+    pub behind: usize,
 }
 
-// How far an unsigned int and an unsigned hyper move the reader.
+// An entry of a clear, and the position behind it.
+pub struct EntryRead {
+    pub entry: ClearEntry,
+    pub behind: usize,
+}
+
+// The widths of an unsigned int and an unsigned hyper.
 const INT: usize = 4;
 
 const HYPER: usize = 8;
@@ -44,20 +62,12 @@ pub(crate) fn from<'a>(src: &'a [u8], at: usize) -> Reader<'a>
     Reader { src, at }
 }
 
-// Ruled out: a number from another place, and more or fewer bytes than an unsigned int has.
-pub(crate) fn unsigned_int<'a>(r: Reader<'a>) -> u32
-    requires { ⌜ r .at + 4 ≤ length (now (r .src)) ⌝ }
-    ensures { λ x. ⌜ x ≡ int-at (now (r .entry .src)) (r .entry .at) ⌝ }
+// Ruled out: a number from another place, and more or fewer bytes than the width.
+pub(crate) fn number<'a>(r: Reader<'a>, width: usize) -> u64
+    requires { ⌜ (width ≤ 8) × (r .at + width ≤ length (now (r .src))) ⌝ }
+    ensures { λ x. ⌜ x ≡ number-at width (now (r .entry .src)) (r .entry .at) ⌝ }
 {
-    number::read_u32(r.src, r.at)
-}
-
-// Ruled out: as for `unsigned_int`.
-pub(crate) fn unsigned_hyper<'a>(r: Reader<'a>) -> u64
-    requires { ⌜ r .at + 8 ≤ length (now (r .src)) ⌝ }
-    ensures { λ x. ⌜ x ≡ hyper-at (now (r .entry .src)) (r .entry .at) ⌝ }
-{
-    number::read_u64(r.src, r.at)
+    number::read_width(r.src, r.at, width)
 }
 
 // The same bytes, `width` bytes further on.
@@ -72,39 +82,59 @@ pub(crate) fn past<'a>(r: Reader<'a>, width: usize) -> Reader<'a>
     }
 }
 
-// How many bytes stand from the position on.
-// Ruled out: the length of all of them, and a count past the end.
-pub(crate) fn left<'a>(r: Reader<'a>) -> usize
-    requires { ⌜ r .at ≤ length (now (r .src)) ⌝ }
-    ensures { λ n. ⌜ n + r .entry .at ≡ length (now (r .entry .src)) ⌝ }
+// Ruled out: the position of another reader.
+pub(crate) fn position<'a>(r: Reader<'a>) -> usize
+    ensures { λ n. ⌜ n ≡ r .entry .at ⌝ }
 {
-    r.src.len() - r.at
+    r.at
+}
+
+// The number of `width` bytes at the position, and the position behind it.
+// Ruled out: a number from another place, and a position that is not behind it.
+pub(crate) fn next(bytes: &[u8], at: usize, width: usize) -> NumberRead
+    requires { ⌜ (width ≤ 8) × (at + width ≤ length (now bytes)) ⌝ }
+    ensures { λ r. ⌜ (r .number ≡ number-at width (now (bytes .entry)) at) × (r .behind ≡ at + width) ⌝ }
+{
+    let here = from(bytes, at);
+    let number = number(here, width);
+    let behind = past(here, width);
+    NumberRead {
+        number,
+        behind: position(behind),
+    }
+}
+
+// An unsigned int.
+// Ruled out: a number of two bytes or eight, and a position that stays where it was.
+pub fn next_int(bytes: &[u8], at: usize) -> IntRead
+    requires { ⌜ at + 4 ≤ length (now bytes) ⌝ }
+    ensures { λ r. ⌜ (r .number ≡ int-at (now (bytes .entry)) at) × (r .behind ≡ at + 4) ⌝ }
+{
+    let int = next(bytes, at, INT);
+    IntRead {
+        number: int.number as u32,
+        behind: int.behind,
+    }
 }
 
 // Ruled out: a number read at the place of the one before it, and an unsigned hyper that moves the reader
 // by 4 only.
-pub fn header_from(bytes: &[u8]) -> Header
-    requires { ⌜ 24 ≤ length (now bytes) ⌝ }
-    ensures { λ h. ⌜ h ≡ header-at (now (bytes .entry)) ⌝ }
+pub fn header_from(bytes: &[u8], at: usize) -> Header
+    requires { ⌜ at + 24 ≤ length (now bytes) ⌝ }
+    ensures { λ h. ⌜ h ≡ header-at (now (bytes .entry)) at ⌝ }
 {
-    let version_at = from(bytes, 0);
-    let version = unsigned_int(version_at);
-    let kind_at = past(version_at, INT);
-    let kind = unsigned_int(kind_at);
-    let sender_at = past(kind_at, INT);
-    let sender = unsigned_int(sender_at);
-    let sequence_at = past(sender_at, INT);
-    let sequence = unsigned_hyper(sequence_at);
-    let counter_at = past(sequence_at, HYPER);
-    let counter = unsigned_int(counter_at);
-    let end = past(counter_at, INT);
+    let version = next_int(bytes, at);
+    let kind = next_int(bytes, version.behind);
+    let sender = next_int(bytes, kind.behind);
+    let sequence = next(bytes, sender.behind, HYPER);
+    let counter = next_int(bytes, sequence.behind);
     Header {
-        version,
-        kind,
-        sender,
-        sequence,
-        counter,
-        left: left(end),
+        version: version.number,
+        kind: kind.number,
+        sender: sender.number,
+        sequence: sequence.number,
+        counter: counter.number,
+        behind: counter.behind,
     }
 }
 
@@ -113,38 +143,30 @@ pub fn increment_from(bytes: &[u8], at: usize) -> Increment
     requires { ⌜ at + 12 ≤ length (now bytes) ⌝ }
     ensures { λ r. ⌜ r ≡ increment-at (now (bytes .entry)) at ⌝ }
 {
-    let p_at = from(bytes, at);
-    let p = unsigned_hyper(p_at);
-    let start_at = past(p_at, HYPER);
+    let p = next(bytes, at, HYPER);
+    let start = next_int(bytes, p.behind);
     Increment {
-        p,
-        start: unsigned_int(start_at),
+        p: p.number,
+        start: start.number,
+        behind: start.behind,
     }
 }
 
-// The length word of a clear.
-// Ruled out: a word of the first entry, and a word of two bytes or eight.
-pub(crate) fn len_from(bytes: &[u8], at: usize) -> u32
-    requires { ⌜ at + 4 ≤ length (now bytes) ⌝ }
-    ensures { λ r. ⌜ r ≡ int-at (now (bytes .entry)) at ⌝ }
-{
-    let len_at = from(bytes, at);
-    unsigned_int(len_at)
-}
-
 // Ruled out: `c` read at the place of `p`, and a number of the next entry.
-pub(crate) fn entry_from(bytes: &[u8], at: usize) -> ClearEntry
+pub fn entry_from(bytes: &[u8], at: usize) -> EntryRead
     requires { ⌜ at + 20 ≤ length (now bytes) ⌝ }
-    ensures { λ r. ⌜ r ≡ entry-at (now (bytes .entry)) at ⌝ }
+    ensures { λ r. ⌜ r ≡ entry-read-at (now (bytes .entry)) at ⌝ }
 {
-    let card_at = from(bytes, at);
-    let card = unsigned_int(card_at);
-    let p_at = past(card_at, INT);
-    let p = unsigned_hyper(p_at);
-    let c_at = past(p_at, HYPER);
-    ClearEntry {
-        card,
-        p,
-        c: unsigned_hyper(c_at),
+    let card = next_int(bytes, at);
+    let p = next(bytes, card.behind, HYPER);
+    let c = next(bytes, p.behind, HYPER);
+    let entry = ClearEntry {
+        card: card.number,
+        p: p.number,
+        c: c.number,
+    };
+    EntryRead {
+        entry,
+        behind: c.behind,
     }
 }

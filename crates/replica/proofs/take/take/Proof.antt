@@ -78,14 +78,18 @@ returns-3 c =
     rw (is-right (else2 .before .before), read-yes else2) (taken .take-clear .ensures)
 
 increment-from-requires : tie.Need-increment-from-requires
-increment-from-requires c κs = let else2 = c .before .before .before in omega (arith, read-exact _ (read-yes else2) (no-clear c))
+increment-from-requires c κs =
+    let header = c .before .before in
+    let h = header-read _ (header .header-from .result) (header .header-from .ensures) in
+    omega (arith, h .behind, read-exact _ (read-yes (header .before)) (no-clear c))
 
 take-increment-requires : tie.Need-take-increment-requires
 take-increment-requires c κs =
     let body = c .before in
     let else3 = body .before in
-    let else2 = else3 .before .before .before in
-    let b = increment-read _ 24 (body .increment-from .result) (body .increment-from .ensures) in
+    let header = else3 .before .before in
+    let else2 = header .before in
+    let b = increment-read _ (header .header-from .result) (header .header-from .ensures) (body .increment-from .result) (body .increment-from .ensures) in
     (is-right (else2 .before .before), rw (b .p) (read-p _ (read-yes else2) (no-clear else3)))
 
 same-length-4 : tie.Need-same-length-4
@@ -101,7 +105,7 @@ returns-4 c =
     let else2 = header .before in
     let s = now (else2 .before .before .before .before .before .before .before .args .message) in
     let h = header-read s (header .header-from .result) (header .header-from .ensures) in
-    let b = increment-read s 24 (body .increment-from .result) (body .increment-from .ensures) in
+    let b = increment-read s (header .header-from .result) (header .header-from .ensures) (body .increment-from .result) (body .increment-from .ensures) in
     rw (is-right (else2 .before .before), read-yes else2)
     (rw (h .sender, h .sequence, h .counter, b .p, b .start, ← read-increment s (no-clear else3)) at (taken .take-increment .ensures))
 

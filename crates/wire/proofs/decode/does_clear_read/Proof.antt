@@ -1,28 +1,32 @@
--- The number of entries, what is left after the header, then the two range tests, as the law of bytes with a clear's version and kind has them.
+-- The number of entries, the length, then the two range tests, as the law of bytes with a clear's version and kind has them.
 use borrow.Author.Needs.{needs}
-use mathlib.Core.Path.{_≡_, sym, _∙_}
-use Prim.Native.Nat.{_+_, _*_}
+use mathlib.Core.Path.{sym, _∙_}
 use native.Mathlib.Omega.{arith}
-use lib.ListN.{length}
 use denote.Ref.{now}
 use Rattle.wire.specs.MessageLaws.{reads-clear-many, reads-clear-inexact, reads-clear-exact}
-use Rattle.wire.specs.PartsLaws.{header-read}
+use Rattle.wire.specs.PartsLaws.{HeaderRead, header-read, CountRead, count-read}
 use Rattle.wire.proofs.decode.does_clear_read.Statement.{statement}
 use Rattle.wire.proofs.decode.does_clear_read.Tie as tie
 
-len-from-requires : tie.Need-len-from-requires
-len-from-requires c κs = search needs
+-- the header, and the length word behind it
+sent : (c : tie.Start) → HeaderRead (now (c .args .bytes)) (c .args .header)
+sent c = header-read (now (c .args .bytes)) (c .args .header) (c .pre .0)
 
-cast-count : tie.Need-cast-count
-cast-count c = search needs
+counted : (c : tie.After-next-int) → let start = c .before .before in CountRead (now (start .args .bytes)) (start .args .header) (start .pre .0) (c .next-int .result .number) (c .next-int .result .behind)
+counted c = let start = c .before .before in count-read (now (start .args .bytes)) (start .args .header) (start .pre .0) _ _ (c .next-int .ensures)
+
+next-int-requires : tie.Need-next-int-requires
+next-int-requires c κs = let start = c .before in omega (arith, sent start .behind, start .pre .3)
+
+cast-len : tie.Need-cast-len
+cast-len c = search needs
 
 returns : tie.Need-returns
 returns c =
-    let count = c .before in
-    let start = count .before .before in
-    let s = now (start .args .bytes) in
-    let h = header-read s (start .args .header) (start .pre .0) in
-    reads-clear-many s (sym (h .version) ∙ start .pre .1) (sym (h .kind) ∙ start .pre .2) (count .len-from .result) (count .len-from .ensures) (c .if1 .taken)
+    let read = c .before .before in
+    let start = read .before .before in
+    let h = sent start in
+    reads-clear-many (now (start .args .bytes)) (sym (h .version) ∙ start .pre .1) (sym (h .kind) ∙ start .pre .2) (read .next-int .result .number) (counted read .number) (c .if1 .taken)
 
 mul-if2 : tie.Need-mul-if2
 mul-if2 c = search needs
@@ -30,16 +34,12 @@ mul-if2 c = search needs
 add-if2 : tie.Need-add-if2
 add-if2 c = search needs
 
-sub-if2 : tie.Need-sub-if2
-sub-if2 c = search needs
-
 returns-2 : tie.Need-returns-2
 returns-2 c =
-    let count = c .before .before .before in
-    let start = count .before .before in
-    let s = now (start .args .bytes) in
-    let h = header-read s (start .args .header) (start .pre .0) in
-    reads-clear-inexact s (sym (h .version) ∙ start .pre .1) (sym (h .kind) ∙ start .pre .2) (count .len-from .result) (count .len-from .ensures) (λ e. c .if2 .taken (omega (arith, h .left, e)))
+    let read = c .before .before .before in
+    let start = read .before .before in
+    let h = sent start in
+    reads-clear-inexact (now (start .args .bytes)) (sym (h .version) ∙ start .pre .1) (sym (h .kind) ∙ start .pre .2) (read .next-int .result .number) (counted read .number) (c .if2 .taken)
 
 header-in-range-requires : tie.Need-header-in-range-requires
 header-in-range-requires c κs = search needs
@@ -47,34 +47,30 @@ header-in-range-requires c κs = search needs
 are-entries-in-range-requires : tie.Need-are-entries-in-range-requires
 are-entries-in-range-requires c κs =
     let else2 = c .before in
-    let start = else2 .before .before .before .before .before in
-    let h = header-read (now (start .args .bytes)) (start .args .header) (start .pre .0) in
-    (search needs, omega (arith, h .left, else2 .if2 .left))
+    let read = else2 .before .before .before in
+    omega (arith, counted read .behind, else2 .if2 .left)
 
 returns-3 : tie.Need-returns-3
 returns-3 c =
     let header = c .before in
     let else2 = header .before in
-    let else1 = else2 .before .before in
-    let count = else1 .before in
-    let start = count .before .before in
-    let s = now (start .args .bytes) in
-    let h = header-read s (start .args .header) (start .pre .0) in
-    let n = count .len-from .result in
-    let exact : length s ≡ 28 + 20 * n = omega (arith, h .left, else2 .if2 .left, start .pre .3) in
-    rw (header .header-in-range .ensures, c .are-entries-in-range .ensures, h .sender, h .sequence, h .counter)
-    (sym (reads-clear-exact s (sym (h .version) ∙ start .pre .1) (sym (h .kind) ∙ start .pre .2) n (count .len-from .ensures) (else1 .if1 .left) exact))
+    let else1 = else2 .before in
+    let read = else1 .before .before in
+    let start = read .before .before in
+    let h = sent start in
+    let n = counted read in
+    rw (header .header-in-range .ensures, c .are-entries-in-range .ensures, n .behind, h .sender, h .sequence, h .counter)
+    (sym (reads-clear-exact (now (start .args .bytes)) (sym (h .version) ∙ start .pre .1) (sym (h .kind) ∙ start .pre .2) (read .next-int .result .number) (n .number) (else1 .if1 .left) (else2 .if2 .left)))
 
 pub does-clear-read-spec : {M : Type 1} → statement M
 does-clear-read-spec =
     tie.close
     (tie.spec
-    len-from-requires
-    cast-count
+    next-int-requires
+    cast-len
     returns
     mul-if2
     add-if2
-    sub-if2
     returns-2
     header-in-range-requires
     are-entries-in-range-requires

@@ -1,29 +1,25 @@
--- What is left after the header, then the two range tests, as the law of bytes with an increment's version and kind has them.
+-- The length, then the two range tests, as the law of bytes with an increment's version and kind has them.
 use borrow.Author.Needs.{needs}
-use mathlib.Core.Path.{_≡_, sym, _∙_}
+use mathlib.Core.Path.{sym, _∙_}
 use native.Mathlib.Omega.{arith}
-use lib.ListN.{length}
 use denote.Ref.{now}
 use Rattle.wire.specs.MessageLaws.{reads-increment-exact, reads-increment-inexact}
 use Rattle.wire.specs.PartsLaws.{header-read, increment-read}
 use Rattle.wire.proofs.decode.does_increment_read.Statement.{statement}
 use Rattle.wire.proofs.decode.does_increment_read.Tie as tie
 
-sub-if1 : tie.Need-sub-if1
-sub-if1 c = search needs
-
 returns : tie.Need-returns
 returns c =
-    let start = c .before .before .before in
+    let start = c .before .before in
     let s = now (start .args .bytes) in
     let h = header-read s (start .args .header) (start .pre .0) in
-    reads-increment-inexact s (sym (h .version) ∙ start .pre .1) (sym (h .kind) ∙ start .pre .2) (λ e. c .if1 .taken (omega (arith, h .left, e)))
+    reads-increment-inexact s (sym (h .version) ∙ start .pre .1) (sym (h .kind) ∙ start .pre .2) (c .if1 .taken)
 
 increment-from-requires : tie.Need-increment-from-requires
 increment-from-requires c κs =
-    let start = c .before .before .before in
+    let start = c .before .before in
     let h = header-read (now (start .args .bytes)) (start .args .header) (start .pre .0) in
-    omega (arith, h .left, c .if1 .left)
+    omega (arith, h .behind, c .if1 .left)
 
 header-in-range-requires : tie.Need-header-in-range-requires
 header-in-range-requires c κs = search needs
@@ -36,19 +32,17 @@ returns-2 c =
     let header = c .before in
     let read = header .before in
     let else1 = read .before in
-    let start = else1 .before .before .before in
+    let start = else1 .before .before in
     let s = now (start .args .bytes) in
     let h = header-read s (start .args .header) (start .pre .0) in
-    let b = increment-read s 24 (read .increment-from .result) (read .increment-from .ensures) in
-    let exact : length s ≡ 36 = omega (arith, h .left, else1 .if1 .left) in
+    let b = increment-read s (start .args .header) (start .pre .0) (read .increment-from .result) (read .increment-from .ensures) in
     rw (header .header-in-range .ensures, c .body-in-range .ensures, h .sender, h .sequence, h .counter, b .p, b .start)
-    (sym (reads-increment-exact s (sym (h .version) ∙ start .pre .1) (sym (h .kind) ∙ start .pre .2) exact))
+    (sym (reads-increment-exact s (sym (h .version) ∙ start .pre .1) (sym (h .kind) ∙ start .pre .2) (else1 .if1 .left)))
 
 pub does-increment-read-spec : {M : Type 1} → statement M
 does-increment-read-spec =
     tie.close
     (tie.spec
-    sub-if1
     returns
     increment-from-requires
     header-in-range-requires
