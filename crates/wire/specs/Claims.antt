@@ -3,9 +3,11 @@ use mathlib.Core.Path.{_≡_, sym, ap, _∙_}
 use mathlib.Core.List.{List, _++_}
 use mathlib.Core.Bool.{true}
 use Prim.Native.Nat.{ℕ, _+_, _*_, _≤_, _<_}
+use native.Mathlib.Omega.{arith}
 use lib.ListN.{length, take}
 use Rattle.protocol.specs.declared.ClearEntry.{ClearEntry}
 use Rattle.wire.specs.Message.{Message, message-bytes, message-length, increment-message, clear-message, in-range, called-length, message-at, reads, read-message, front-length}
+use Rattle.wire.specs.Parts.{header-at, increment-at, entry-read-at}
 use Rattle.wire.specs.NumberLaws.{Bytes}
 use Rattle.wire.specs.WriteLaws.{length-message-bytes, increment-message-length, clear-message-length}
 use Rattle.wire.specs.RoundTrips as trips
@@ -53,3 +55,7 @@ front-reads = trips.front-readable
 -- Bytes that read have the length that they ask for.
 pub called-of-read : (s : List ℕ) → reads s ≡ true → called-length s ≡ length s
 called-of-read s h = sym (trips.readable s h .exact)
+
+-- The position that bytes are read from only moves forward: behind a header, the rest of an increment and an entry it is above the one that the part began at, whatever the bytes.
+pub position-rises : (s : List ℕ) (at : ℕ) → (at < header-at s at .behind) × (at < increment-at s at .behind) × (at < entry-read-at s at .behind)
+position-rises s at = (omega arith, omega arith, omega arith)
