@@ -71,7 +71,7 @@ pub(crate) fn number<'a>(r: Reader<'a>, width: usize) -> u64
 }
 
 // The same bytes, `width` bytes further on.
-// Ruled out: a reader that stays where it was (must-fail/reader_stays), and one that goes back.
+// Ruled out: a reader that stays where it was, and one that goes back.
 pub(crate) fn past<'a>(r: Reader<'a>, width: usize) -> Reader<'a>
     requires { ⌜ r .at + width ≤ length (now (r .src)) ⌝ }
     ensures { λ q. ⌜ (q .src ≡ r .entry .src) × (q .at ≡ r .entry .at + width) ⌝ }
@@ -105,7 +105,7 @@ pub(crate) fn next(bytes: &[u8], at: usize, width: usize) -> NumberRead
 }
 
 // An unsigned int.
-// Ruled out: a number of two bytes or eight, and a position that stays where it was.
+// Ruled out: a number of two bytes or eight, and a position that stays where it was (must-fail/reader_stays).
 pub fn next_int(bytes: &[u8], at: usize) -> IntRead
     requires { ⌜ at + 4 ≤ length (now bytes) ⌝ }
     ensures { λ r. ⌜ (r .number ≡ int-at (now (bytes .entry)) at) × (r .behind ≡ at + 4) ⌝ }
