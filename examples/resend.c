@@ -53,7 +53,7 @@ static uint64_t answers[YELANSUB_IMPLAUSIBLE + 1]; /* how often take gave each *
 static void expect(const char *what, uint64_t is, uint64_t due)
 {
     if (is != due) {
-        printf("\nfailed: %s is %" PRIu64 ", should be %" PRIu64 "\n", what, is, due);
+        printf("failed: %s is %" PRIu64 ", should be %" PRIu64 "\n", what, is, due);
         exit(1);
     }
 }
@@ -134,11 +134,17 @@ static void settle(void)
 
 typedef struct yelansub_sent sending(uint64_t *, size_t, uint64_t, uint8_t *, size_t);
 
-/* Counts or clears on card i and keeps the message; with no room to keep it, that has to wait. */
-static void make(unsigned i, sending *call)
+/* With no room to keep one more message, counting and clearing have to wait. */
+static void wait_for_room(unsigned i)
 {
     if (to_keep(i) == KEPT)
         settle();
+}
+
+/* Counts or clears on card i and keeps the message. */
+static void make(unsigned i, sending *call)
+{
+    wait_for_room(i);
     struct message *message = &cards[i].kept[(cards[i].made + 1) % KEPT];
     struct yelansub_sent sent =
         call(cards[i].words, words, DROPS, message->bytes, sizeof message->bytes);
@@ -147,12 +153,13 @@ static void make(unsigned i, sending *call)
     message->sequence = cards[i].made = sent.sequence;
 }
 
-/* The console notes the drops that it has heard of, and clears just these. */
+/* The console notes the drops that it has heard of, and clears just these: nothing may be taken
+   between the read and the clear, so the waiting comes first. */
 static uint64_t collect(void)
 {
+    wait_for_room(CONSOLE);
     uint64_t value = yelansub_read(cards[CONSOLE].words, words, DROPS).value;
     make(CONSOLE, yelansub_clear);
-    printf(" %" PRIu64, value);
     return value;
 }
 
@@ -164,7 +171,6 @@ int main(void)
     /* 100 drops on card 0 and 50 on card 1. Every 20 turns the console collects what it has heard
        of by then, and the rest when it has heard of all: 150, whatever was lost on the way. */
     uint64_t collected = 0;
-    printf("collected");
     for (unsigned turn = 1; turn <= 100; turn++) {
         make(0, yelansub_count);
         if (turn % 2 == 0)
@@ -184,10 +190,14 @@ int main(void)
         make(1, yelansub_count);
     settle();
 
-    /* The cards have written 104 and 53 messages, the console six: two others took each, once. */
+    /* The cards have written 104 and 53 messages, the console six: two others took each, once.
+       How often the network did its worst is its luck, but it must have. */
     expect("the number of messages taken", answers[YELANSUB_OK], 2 * (104 + 53 + 6));
-    printf(", in all %" PRIu64 "\n%u packets lost, %" PRIu64 " repeated, %" PRIu64 " early\n",
-           collected, lost, answers[YELANSUB_REPEATED], answers[YELANSUB_EARLY]);
+    expect("lost, repeated and early, each at least once",
+           lost > 0 && answers[YELANSUB_REPEATED] > 0 && answers[YELANSUB_EARLY] > 0, 1);
+    fprintf(stderr, "%u packets lost, %" PRIu64 " repeated, %" PRIu64 " early\n", lost,
+            answers[YELANSUB_REPEATED], answers[YELANSUB_EARLY]);
+    printf("collected %" PRIu64 " drops in six clears\n", collected);
     for (unsigned i = 0; i < CARDS; i++) {
         struct yelansub_reading reading = yelansub_read(cards[i].words, words, DROPS);
         printf("card %u: %" PRIu64 " drops, holders %" PRIx64 "\n", i, reading.value,
