@@ -3,15 +3,43 @@
  *
  * Each card keeps a replica: plain words that the driver owns. Counting and
  * clearing change the own replica at once and write a message, which the driver
- * carries to every other card, each link in order. Nothing here prints,
- * allocates, blocks or keeps state, so calls on different replicas may run at
- * the same time.
+ * carries to every other card.
  *
- * Every call takes any pointer and length that are valid memory, NULL with
- * length 0 included, and answers by number. Words are aligned as uint64_t.
- * Buffers of one call must not overlap. A refused call writes nothing: replica,
- * output, logs and answers stay as they were, and the other numbers of its
- * answer are 0.
+ * What is proved. Open one replica on each card, then count, clear and take in
+ * any order, with any counters, buffers and bytes, over a network that may
+ * lose, repeat, reorder and damage messages. After every such history a read
+ * of any counter on any card is accepted, and is what the counter's ledger has
+ * for that card, fed the accepted calls; and no call moves a counter other
+ * than its own. yelansub_take answers a message that its sender wrote with 0
+ * if it is the next of that sender, 8 if it was taken before, 9 if an earlier
+ * one is missing, 7 on the sender itself, and nothing else. What was answered
+ * 0 or 8 is answered 8 ever after, and all of a card's messages, sent again in
+ * order, are answered 0 or 8 each time, whatever was lost. So a driver that
+ * sends again until it is answered 0 or 8 is right (examples/resend.c).
+ *
+ * What the driver has to keep for that:
+ *   - No forged message is accepted: bytes that yelansub_take answers with 0
+ *     were written before by the card that they name as sender. The format has
+ *     no checksum: a link that can damage bytes needs one below.
+ *   - A card is opened once, and its words survive a restart: they are stored
+ *     before a message made from them, or an answer, leaves the card. Opened
+ *     again, or restored from older words, it reuses sequence numbers, and the
+ *     others answer 8 to drops that they never had.
+ *   - What a card wrote is kept until every other card has answered it with 0
+ *     or 8: it cannot be written again, and until it comes all later ones are
+ *     9.
+ *   - One chassis to a network: messages carry no chassis number.
+ *
+ * What counters share is a card's sequence numbers (4), the order of its link
+ * (9) and, in a run, its log (14): one counter's messages use these up for
+ * all.
+ *
+ * Nothing here prints, allocates, blocks or keeps state, so calls on different
+ * replicas may run at the same time. Every call takes any pointer and length
+ * that are valid memory, NULL with length 0 included, and answers by number.
+ * Words are aligned as uint64_t. Buffers of one call must not overlap. A
+ * refused call writes nothing: replica, output, logs and answers stay as they
+ * were, and the other numbers of its answer are 0.
  */
 #ifndef YELANSUB_H
 #define YELANSUB_H
