@@ -38,6 +38,7 @@ pub mod Takes
 -- Lists of steps and answers as runs of the theory.
 pub mod Offers
 pub mod TheoryReads
+pub mod Agreement
 -- A state of a run beside them, and the steps, each beside the theory's.
 pub mod Matches
 pub mod Fresh

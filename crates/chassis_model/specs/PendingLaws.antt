@@ -8,34 +8,29 @@ use native.Mathlib.Omega.{arith}
 use lib.Dec.{eqb}
 use lib.ListN.{length}
 use borrow.Author.Tests.{lt-ltb, ne-eqb, eqb-true}
-use Rattle.protocol.specs.Ledger.{Ledger, empty-ledger, holds}
+use Rattle.protocol.specs.Ledger.{Ledger, empty-ledger}
 use Rattle.protocol.specs.Chassis as protocol
 use Rattle.protocol.specs.Chassis.{Chassis, fresh-chassis}
-use Rattle.protocol.specs.Theorem.{value-is, holders-are}
-use Rattle.protocol.specs.Arrivals.{Arrivals, kept-arrivals}
-use Rattle.protocol.specs.Agreement.{cards-agree, received-all, same-holds}
 use Rattle.protocol.specs.RoundRobin.{Link, IsLink, replayed, AllDeliver, Orderly}
 use Rattle.protocol.specs.RoundRobinMade.{CallOk, call-ok}
 use Rattle.protocol.specs.RoundRobinEnd.{drained, never-passed}
 use Rattle.protocol.specs.PendingLaws.{N-link, N-elsewhere}
 use Rattle.wire.specs.Message.{message-at}
 use Rattle.replica_model.specs.Calls.{read-on}
-use Rattle.replica_model.specs.RowLaws.{count-cong}
 use Rattle.chassis_model.specs.Log.{waiting-part}
 use Rattle.chassis_model.specs.LogLaws.{stands-in-log}
 use Rattle.chassis_model.specs.Numbered.{wire-log, wire-log-at, length-numbered}
 use Rattle.chassis_model.specs.Takes.{fields-are}
 use Rattle.chassis_model.specs.Run.{Step, State, N-at, replica-of, log-of, delivered, cards-right, step-on, state-after, answers-of, deliver-kind}
-use Rattle.chassis_model.specs.Ledger.{ledger-reading}
 use Rattle.chassis_model.specs.Answers.{fresh-state}
-use Rattle.chassis_model.specs.InStep.{InStep, reached-N, made-all}
+use Rattle.chassis_model.specs.InStep.{reached-N, made-all}
 use Rattle.chassis_model.specs.Matches.{Sizes, Matches}
 use Rattle.chassis_model.specs.Fresh.{fresh-matches}
-use Rattle.chassis_model.specs.Reads.{read-matches}
 use Rattle.chassis_model.specs.Stepping.{step-of-kind}
 use Rattle.chassis_model.specs.Delivered.{one-delivered, delivered-is-alike}
 use Rattle.chassis_model.specs.Steps.{link-matches}
-use Rattle.chassis_model.specs.Theorem.{run-matches}
+use Rattle.chassis_model.specs.Theorem.{run-matches, state-run}
+use Rattle.chassis_model.specs.Agreement.{reads-agree}
 use Rattle.chassis_model.specs.Pending.{state-links, pump, all-waiting, pump-steps, Checked}
 
 -- a state that a run, and deliveries behind it, can reach
@@ -109,31 +104,6 @@ module _ (r k L : ℕ) where
   after-append [] ts st = refl
   after-append (s ∷ ss) ts st = after-append ss ts (step-on r k L s st .state)
 
--- ---- cards to which nothing more has to come
-
-module _ (r k L : ℕ) (st : State) (ch : Chassis) (ls : ℕ → Ledger) (h : InStep r k (replica-of r k L st) ch ls) (come : (q : ℕ) → Arrivals (ls q))
-    (none : (i s : ℕ) → IsLink r i s → state-links r k L .waiting i s st ≡ 0) where
-  all-come : (i : ℕ) → i < r → (s : ℕ) → IsLink r i s → ch .replica s .N s ≤ ch .replica i .N s
-  all-come i hi s is =
-      let a = reached-N r k (replica-of r k L st) ch ls h s s (is .1) (is .1) in
-      let b = reached-N r k (replica-of r k L st) ch ls h i s (is .0) (is .1) in
-      let c = none i s is in
-      omega arith
-
-  reads-agree : (i j q : ℕ) → i < r → j < r → q < k → read-on (replica-of r k L st i) q ≡ read-on (replica-of r k L st j) q
-  unfolding ledger-reading
-  reads-agree i j q hi hj hq =
-      let ok = h .oks q in
-      let same = cards-agree r q ch (ls q) ok (come q) i j hi hj (all-come i hi) (all-come j hj) in
-      let e = received-all r q ch (ls q) ok i hi (all-come i hi) in let e′ = received-all r q ch (ls q) ok j hj (all-come j hj) in
-      read-matches r k (replica-of r k L st) ch ls h i q hi hq
-      ∙ rw (
-        sym (value-is r q ch (ls q) ok i) ∙ same .0 ∙ value-is r q ch (ls q) ok j,
-        sym (holders-are r q ch (ls q) ok i) ∙ same .1 ∙ holders-are r q ch (ls q) ok j,
-        count-cong r (λ o. holds i o (ls q)) (λ o. holds j o (ls q)) (λ o m. same-holds r q ch (ls q) ok (come q) i j e e′ o),
-      )
-      (sym (read-matches r k (replica-of r k L st) ch ls h j q hj hq))
-
 -- ---- the checks before a call pass
 
 module _ (r k L : ℕ) (st : State) (g : Reached r k L st) where
@@ -193,5 +163,5 @@ module _ (r k L : ℕ) (steps : List Step) (logs : List ℕ) (z : Sizes r k) (fi
       = rw call-is-steps at
       (drained (state-links r k L) r b (Reached r k L) (reached-orderly r k L) st (reached steps) (λ i s is. never-passes i s) enough) in
       rw call-is-steps
-      (reads-agree r k L (state-after r k L all start) _ _ (run-matches r k L all start fresh-chassis (λ q. empty-ledger) (fresh-matches r k L logs z fits) .0 .cards)
-      (λ q. kept-arrivals r q _ _) none i j q hi hj hq)
+      (reads-agree r k _ _ _ (state-run r k L all logs z fits) i j hi hj
+      (λ s is. let e = none i s is in omega arith) (λ s is. let e = none j s is in omega arith) q hq)

@@ -14,7 +14,7 @@ use Rattle.replica_model.specs.Calls.{read-on}
 use Rattle.replica_model.specs.RowLaws.{sizes}
 use Rattle.replica_model.specs.RowLaws.{tests}
 use Rattle.chassis_model.specs.Parts.{part}
-use Rattle.chassis_model.specs.Run.{Step, State, step-on, state-after, answers-of, sizes-right, run-on, steps-of, run-bytes-on}
+use Rattle.chassis_model.specs.Run.{Step, State, replica-of, step-on, state-after, answers-of, sizes-right, run-on, steps-of, run-bytes-on}
 use Rattle.chassis_model.specs.Ledger.{ledger-step, was-accepted, ledger-of, ledger-reading}
 use Rattle.chassis_model.specs.Answers.{fresh-state, due-answer, run-answer}
 use Rattle.chassis_model.specs.Matches.{Sizes, Matches}
@@ -53,7 +53,15 @@ pub right-sizes : (r k L n : ℕ) (words logs answers : List ℕ) → sizes-righ
 unfolding sizes-right
 right-sizes r k L n words logs answers e = let f = simp tests at e in (sizes r k (f .0 .0 .0), f .0 .1)
 
--- a run whose sizes are right is a run of the theory
+-- what a list of steps leaves is a run of the theory
+pub state-run : (r k L : ℕ) (steps : List Step) (logs : List ℕ) → Sizes r k → length logs ≡ r * L
+    → let start = fresh-state r k L logs in
+    TheoryRun r k (map ledger-step steps) (answers-of r k L steps start) (replica-of r k L (state-after r k L steps start))
+state-run r k L steps logs z fits =
+    let ran = run-matches r k L steps (fresh-state r k L logs) fresh-chassis (λ q. empty-ledger) (fresh-matches r k L logs z fits) in
+    record { cards = ran .0 .cards; steps-are = offers-steps r k L steps (fresh-state r k L logs); answers-are = ran .1 }
+
+-- and so is a run whose sizes are right
 module _ (r k L : ℕ) (steps : List Step) (words logs answers : List ℕ) (right : sizes-right r k L (length steps) words logs answers ≡ true) where
   pub answers-are : run-on r k L steps words logs answers .answers ≡ answers-of r k L steps (fresh-state r k L logs)
   unfolding run-on
@@ -67,9 +75,7 @@ module _ (r k L : ℕ) (steps : List Step) (words logs answers : List ℕ) (righ
       (part (replica-length r k) (run-on r k L steps words logs answers .words))
   theory-run =
       let z = right-sizes r k L (length steps) words logs answers right in
-      let ran = run-matches r k L steps (fresh-state r k L logs) fresh-chassis (λ q. empty-ledger) (fresh-matches r k L logs (z .0) (z .1)) in
-      rw (answers-are, words-are)
-      (record { cards = ran .0 .cards; steps-are = offers-steps r k L steps (fresh-state r k L logs); answers-are = ran .1 })
+      rw (answers-are, words-are) (state-run r k L steps logs (z .0) (z .1))
 
 pub ledger-theorem : (r k L : ℕ) (steps : List Step) (words logs answers : List ℕ) → sizes-right r k L (length steps) words logs answers ≡ true
     → (i q : ℕ) → i < r → q < k
