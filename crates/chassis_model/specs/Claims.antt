@@ -10,7 +10,7 @@ use mathlib.Core.List.{List, _∷_, _++_}
 use lib.ListN.{length, getD}
 use Rattle.protocol.specs.Limits.{wrong-sizes}
 use Rattle.wire.specs.NumberLaws.{Bytes}
-use Rattle.replica_model.specs.Layout.{replica-length}
+use Rattle.replica_model.specs.Layout.{replica-length, N-of}
 use Rattle.replica_model.specs.Calls.{read-on}
 use Rattle.chassis_model.specs.Parts.{part}
 use Rattle.chassis_model.specs.Run.{Step, state-after, answers-of, sizes-right, run-on, steps-bytes, AllFit, steps-of, run-bytes-on}
@@ -41,6 +41,15 @@ pub ledger-theorem-over-bytes : (r k L : ℕ) (bytes words logs answers : List �
     after .number ≡ 0 → (i q : ℕ) → i < r → q < k
     → read-on (part (replica-length r k) (after .words) i) q ≡ ledger-reading r i (ledger-of r q (steps-of bytes) (after .answers))
 ledger-theorem-over-bytes = theorem.ledger-theorem-over-bytes
+
+-- Cards that have received all that was made agree: after any list of steps, two cards whose N of every card is that card's own N read the same of every counter,
+-- the whole of it: number, value, holding cards and how many.
+pub all-received-agree : (r k L : ℕ) (steps : List Step) (words logs answers : List ℕ) → sizes-right r k L (length steps) words logs answers ≡ true
+    → let card = part (replica-length r k) (run-on r k L steps words logs answers .words) in
+    (i j : ℕ) → i < r → j < r
+    → ((s : ℕ) → s < r → N-of r (card i) s ≡ N-of r (card s) s) → ((s : ℕ) → s < r → N-of r (card j) s ≡ N-of r (card s) s)
+    → (q : ℕ) → q < k → read-on (card i) q ≡ read-on (card j) q
+all-received-agree = theorem.all-received-agree
 
 -- ACCEPTED SIZES. A run over records answers 0 exactly when its sizes are right. Otherwise it answers 11, and words, logs and answers are as they were.
 pub accepted-sizes : (r k L : ℕ) (steps : List Step) (words logs answers : List ℕ)
