@@ -18,6 +18,7 @@ pub mod Claims
 pub mod Scenarios
 pub mod DriverClaims
 pub mod DriverExamples
+pub mod AgreementExamples
 pub mod AloneClaims
 pub mod AloneExamples
 pub mod ReadAndClearClaims

@@ -1,0 +1,92 @@
+-- CLAIMS. What `DriverClaims.all-received-agree` asks for, computed on the definitions: a history after which two cards agree, and one for each thing asked that
+-- shows cards which disagree without it.
+use Prim.Native.Nat.{ℕ}
+use mathlib.Core.Path.{_≡_, refl}
+use mathlib.Core.Logic.{inl, inr}
+use mathlib.Core.List.{List, [], _∷_, _++_}
+use mathlib.Core.Bool.{Bool, true, false}
+use lib.Dec.{eqb}
+use lib.ListN.{length, getD, replicate}
+use Rattle.protocol.specs.Tables.{put, sum, bits}
+use Rattle.protocol.specs.Entry.{incremented, cleared}
+use Rattle.protocol.specs.Chassis.{count-message, present-entries, clear-message, read-value, read-holders}
+use Rattle.protocol.specs.Stores.{cleared-words, taken-words, shown}
+use Rattle.wire.specs.Number.{number-at, bytes-of}
+use Rattle.wire.specs.Message as form
+use Rattle.wire.specs.Message.{header-bytes, increment-bytes, entry-bytes, entries-bytes, clear-bytes, message-bytes, header-in-range, increment-in-range, clear-in-range, entry-in-range, entries-in-range, unused, in-range, increment-message, entries-at, called-length, message-at, reads}
+use Rattle.replica_model.specs.Layout.{N-of, fresh-words}
+use Rattle.replica_model.specs.Calls as calls
+use Rattle.replica_model.specs.Calls.{sizes-in-range, right, all-below, count-below, entry-well-formed, card-well-formed, row-well-formed, reading, read-on, sending, count-on, clear-on, content, all-entries, cards-known, increment-implausible, entry-plausible, plausible, taking, take-on}
+use Rattle.chassis_model.specs.Driver.{Call, count, clear, take, opened, wrote, sent, called, number-of, after, numbers, cards-after, GenuineHistory}
+use Rattle.chassis_model.specs.DriverExamples.{first, second, reading-of}
+
+-- card i has received all that card s has written; and all that every card has
+abbrev pub has-all-of : ℕ → ℕ → List Call → ℕ → ℕ → Bool
+has-all-of r k calls i s = eqb (N-of r (cards-after r k calls .words i) s) (length (cards-after r k calls .written s))
+
+abbrev pub has-all : ℕ → ℕ → List Call → ℕ → Bool
+has-all r k calls i = all-below r (has-all-of r k calls i)
+
+-- card i's first message, as card i has written it after the calls
+abbrev pub first-of : ℕ → ℕ → ℕ → List Call → List ℕ
+first-of r k i calls = getD (cards-after r k calls .written i) 0 []
+
+-- Card 0 counts, and card 1 clears that; card 0 counts once more before the clear comes. Then each takes what it lacks.
+abbrev pub crossing : List Call
+crossing = count 0 0 (replicate 36 9) ∷ take 1 first ∷ clear 1 0 (replicate 48 9) ∷ count 0 0 (replicate 36 9) ∷ []
+
+abbrev pub exchanged : List Call
+exchanged = crossing ++ take 0 (first-of 2 1 1 crossing) ∷ take 1 second ∷ []
+
+-- a count that nobody else has received
+abbrev pub under-way : List Call
+under-way = count 0 0 (replicate 36 9) ∷ []
+
+-- of three cards card 2 counts, and card 0 alone receives that
+abbrev pub from-a-third : List Call
+from-a-third = let counted = count 2 0 (replicate 36 9) ∷ [] in counted ++ take 0 (first-of 3 1 2 counted) ∷ []
+
+-- card 1 accepts a first message of card 0 on counter 0, which card 0 never writes: its own first is on counter 1
+abbrev pub forged : List Call
+forged = take 1 first ∷ count 0 1 (replicate 36 9) ∷ []
+
+pub examples-hold :
+    -- both have received all, and the second count is there on both
+    GenuineHistory 2 1 exchanged × (numbers exchanged (opened 2 1) ≡ 0 ∷ 0 ∷ 0 ∷ 0 ∷ 0 ∷ 0 ∷ [])
+    × (has-all 2 1 exchanged 0 ≡ true) × (has-all 2 1 exchanged 1 ≡ true)
+    × (read-on (cards-after 2 1 exchanged .words 0) 0 ≡ reading-of 1 1 1) × (read-on (cards-after 2 1 exchanged .words 1) 0 ≡ reading-of 1 1 1)
+    -- one card that has received all is not enough
+    × GenuineHistory 2 1 under-way × (has-all 2 1 under-way 0 ≡ true) × (has-all 2 1 under-way 1 ≡ false)
+    × (read-on (cards-after 2 1 under-way .words 0) 0 ≡ reading-of 1 1 1) × (read-on (cards-after 2 1 under-way .words 1) 0 ≡ reading-of 0 0 0)
+    -- nor are two that have received all of each other
+    × GenuineHistory 3 1 from-a-third
+    × (has-all 3 1 from-a-third 0 ≡ true) × (has-all-of 3 1 from-a-third 1 0 ≡ true) × (has-all-of 3 1 from-a-third 1 2 ≡ false)
+    × (read-on (cards-after 3 1 from-a-third .words 0) 0 ≡ reading-of 1 4 1) × (read-on (cards-after 3 1 from-a-third .words 1) 0 ≡ reading-of 0 0 0)
+    -- nor two that have received as many messages as were written, if one was forged
+    × (GenuineHistory 2 2 forged → ⊥) × (has-all 2 2 forged 0 ≡ true) × (has-all 2 2 forged 1 ≡ true)
+    × (read-on (cards-after 2 2 forged .words 0) 0 ≡ reading-of 0 0 0) × (read-on (cards-after 2 2 forged .words 1) 0 ≡ reading-of 1 1 1)
+unfolding put sum bits incremented cleared count-message present-entries clear-message read-value read-holders cleared-words taken-words shown number-at bytes-of header-bytes increment-bytes entry-bytes entries-bytes clear-bytes message-bytes header-in-range increment-in-range clear-in-range entry-in-range entries-in-range unused in-range increment-message entries-at called-length message-at reads form.clear-message fresh-words sizes-in-range right all-below count-below entry-well-formed card-well-formed row-well-formed reading read-on calls.sent sending count-on clear-on content all-entries cards-known increment-implausible entry-plausible plausible taking take-on wrote sent called number-of after numbers
+examples-hold = (
+  (tt, (λ _. inl refl, (tt, (tt, (λ _. inl refl, (λ _. inr (inl refl), tt)))))),
+  refl,
+  refl,
+  refl,
+  refl,
+  refl,
+  (tt, tt),
+  refl,
+  refl,
+  refl,
+  refl,
+  (tt, (λ _. inl refl, tt)),
+  refl,
+  refl,
+  refl,
+  refl,
+  refl,
+  λ g. g .0 refl,
+  refl,
+  refl,
+  refl,
+  refl,
+)
