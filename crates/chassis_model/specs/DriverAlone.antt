@@ -11,8 +11,8 @@ use borrow.Author.Tests.{lt-ltb, le-ltb, eq-eqb, ne-eqb, eqb-true}
 use Rattle.protocol.specs.Limits.{MAX}
 use Rattle.protocol.specs.Cases.{by-le, by-place, by-test}
 use Rattle.protocol.specs.Ledger as ledger
-use Rattle.protocol.specs.Ledger.{Ledger, empty-ledger, entered, fed}
-use Rattle.protocol.specs.Chassis.{Chassis, fresh-chassis, done, enabled, stepped}
+use Rattle.protocol.specs.Ledger.{Ledger, empty-ledger, entered}
+use Rattle.protocol.specs.Chassis.{Chassis, fresh-chassis, done}
 use Rattle.protocol.specs.Enabled.{deliver-enabled}
 use Rattle.protocol.specs.Alone as queues
 use Rattle.protocol.specs.Alone.{Turns, no-turns, belongs-by-turns}
@@ -30,7 +30,7 @@ use Rattle.chassis_model.specs.Reads.{read-matches}
 use Rattle.chassis_model.specs.TheoryReads.{same-reading}
 use Rattle.chassis_model.specs.AloneLaws.{some-number, same-size, fewer-made}
 use Rattle.chassis_model.specs.DriverMatches.{DriverMatches, opened-matches, take-cases}
-use Rattle.chassis_model.specs.DriverSteps.{call-matches, call-number}
+use Rattle.chassis_model.specs.DriverSteps.{call-number, accepted-enabled, accepted-leaves, declined-leaves}
 use Rattle.chassis_model.specs.DriverResends.{written-length, written-in-order, written-by-sender}
 
 -- ---- a count or a clear that is accepted is accepted where less was made
@@ -44,20 +44,6 @@ sending-fits k q N N′ size size′ out few less same e =
     (λ f. absurd (some-number 3 (rw (lt-ltb q k hq, eq-eqb N MAX f) at e)))
     (λ f. rw (ne-eqb N′ MAX (λ g. f (omega arith)), same) (rw (lt-ltb q k hq, ne-eqb N MAX f) at e))))
     (λ l. absurd (some-number 2 (rw (le-ltb q k (omega arith)) at e)))
-
--- ---- an accepted call, and what it leaves
-
-module _ (r k : ℕ) (st : Cards) (ch : Chassis) (ls : ℕ → Ledger) (m : DriverMatches r k st ch ls) (c : Call) (g : GenuineCall c st) where
-  accepted-enabled : number-of c st ≡ 0 → enabled r (call-step c) ch ≡ true
-  accepted-enabled ok = rw ok at (call-matches r k st ch ls m c g .1)
-
-  accepted-leaves : number-of c st ≡ 0 → DriverMatches r k (called c st) (done r (call-step c) ch) (λ q. entered r q (call-step c) (ls q))
-  unfolding stepped fed
-  accepted-leaves ok = rw (ok, accepted-enabled ok) at (call-matches r k st ch ls m c g .0)
-
-  declined-leaves : (number-of c st ≡ 0 → ⊥) → DriverMatches r k (called c st) ch ls
-  unfolding stepped fed
-  declined-leaves d = rw (ne-eqb (number-of c st) 0 d) at (call-matches r k st ch ls m c g .0)
 
 -- ---- a call of q that the first history accepts, again in the second
 
