@@ -82,7 +82,7 @@ pub some-number : (n : ℕ) → suc n ≡ 0 → ⊥
 some-number n e = omega arith
 
 -- a check that did not refuse
-passed : (t : Bool) (x n : ℕ) → cond t x (suc n) ≡ 0 → (t ≡ true) × (x ≡ 0)
+pub passed : (t : Bool) (x n : ℕ) → cond t x (suc n) ≡ 0 → (t ≡ true) × (x ≡ 0)
 passed true x n e = (refl, e)
 passed false x n e = absurd (omega arith)
 

@@ -13,6 +13,7 @@ pub mod ReadAndClearOf
 pub mod Algorithm1Of
 pub mod Pending
 pub mod HistoryOf
+pub mod Cleared
 -- CLAIMS
 pub mod Claims
 pub mod Scenarios
@@ -25,6 +26,7 @@ pub mod ReadAndClearClaims
 pub mod Algorithm1Claims
 pub mod PendingClaims
 pub mod CaughtUpClaims
+pub mod ClearClaims
 -- LAWS. Lists in parts, logs of messages.
 pub mod PartLaws
 pub mod LogLaws
@@ -70,3 +72,4 @@ pub mod DriverSame
 pub mod DriverTheorem
 pub mod DriverAlone
 pub mod ReadAndClearLaws
+pub mod ClearedLaws
