@@ -1,7 +1,7 @@
 -- CLAIMS. What a clear takes, over a driver's calls and over a run's steps: what its card had seen, all of that, and for good. A clear that took counts that its card
 -- had not seen, or a cleared count that came back, would give one partition's bandwidth to another. An increment is cancelled on a card if its name is in the card's
 -- cancelled set; by `DriverClaims.driver-theorem` and `Claims.ledger-theorem` a read counts the increments that the card has received and that are not cancelled there.
--- `Cleared` has the definitions.
+-- `Cleared` has the definitions, `ClearedExamples` a small history.
 use Prim.Native.Nat.{ℕ, _+_}
 use mathlib.Core.Path.{_≡_}
 use mathlib.Core.Bool.{true}

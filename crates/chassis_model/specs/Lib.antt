@@ -27,6 +27,7 @@ pub mod Algorithm1Claims
 pub mod PendingClaims
 pub mod CaughtUpClaims
 pub mod ClearClaims
+pub mod ClearedExamples
 -- LAWS. Lists in parts, logs of messages.
 pub mod PartLaws
 pub mod LogLaws
