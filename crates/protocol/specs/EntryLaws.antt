@@ -262,6 +262,27 @@ count-follows R X e w h k b (even s i j l) = rw (present-no e i) (record { some-
 count-follows R X e w h k b (ahead s i j l) = rw (present-yes e (omega arith)) (record { some-units = h; rule = omega arith; goes-on = omega arith })
 count-follows R X e w h k b (behind s i j l) = absurd (omega arith)
 
+-- ---- what fixes an entry
+
+pub entry-is : (e f : Entry) → e .p ≡ f .p → e .n ≡ f .n → e .c ≡ f .c → e ≡ f
+entry-is e f a b c = rw (a, b, c)
+
+fixed-by-numbers : (R X Y : Mark) (e f : Entry) → X .names ≡ Y .names → X .p ≡ Y .p → X .c ≡ Y .c → EntryOk R X e → EntryOk R Y f → e ≡ f
+fixed-by-numbers R X Y e f x y z (even s i j l) (even s′ i′ j′ l′) = entry-is e f (omega arith) (omega arith) (omega arith)
+fixed-by-numbers R X Y e f x y z (even s i j l) (ahead s′ i′ j′ l′) = absurd (omega arith)
+fixed-by-numbers R X Y e f x y z (even s i j l) (behind s′ i′ j′ l′) = absurd (omega arith)
+fixed-by-numbers R X Y e f x y z (ahead s i j l) (even s′ i′ j′ l′) = absurd (omega arith)
+fixed-by-numbers R X Y e f x y z (ahead s i j l) (ahead s′ i′ j′ l′) = entry-is e f (omega arith) (omega arith) (omega arith)
+fixed-by-numbers R X Y e f x y z (ahead s i j l) (behind s′ i′ j′ l′) = absurd (omega arith)
+fixed-by-numbers R X Y e f x y z (behind s i j l) (even s′ i′ j′ l′) = absurd (omega arith)
+fixed-by-numbers R X Y e f x y z (behind s i j l) (ahead s′ i′ j′ l′) = absurd (omega arith)
+fixed-by-numbers R X Y e f x y z (behind s i j l) (behind s′ i′ j′ l′) = entry-is e f (omega arith) (omega arith) (omega arith)
+
+-- the messages received fix the entry, and how many names are cancelled: marks of one history that have as many names have the same p and c
+pub fixed : (R X Y : Mark) (e f : Entry) → Ordered X Y → X .names ≡ Y .names → EntryOk R X e → EntryOk R Y f → e ≡ f
+fixed R X Y e f (inl b) s = fixed-by-numbers R X Y e f s (b .same-p s) (b .same-c s)
+fixed R X Y e f (inr b) s = fixed-by-numbers R X Y e f s (sym (b .same-p (sym s))) (sym (b .same-c (sym s)))
+
 -- ---- no refusal 2 and no refusal 10 in a run
 
 -- where no card has made more than `most` units

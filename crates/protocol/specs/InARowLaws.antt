@@ -11,29 +11,12 @@ use Rattle.protocol.specs.Cases.{by-test, by-place, by-le}
 use Rattle.protocol.specs.Tables.{put, put-same, put-at, put-other, put-same-row}
 use Rattle.protocol.specs.Entry.{Entry, present, incremented, count-starts, count-p}
 use Rattle.protocol.specs.Marks.{Mark, Proper, Before, Follows, after-increment, Proper-increment, Before-refl, Before-increment, Before-trans}
-use Rattle.protocol.specs.EntryLaws.{EntryOk, even, ahead, behind, Placed, cancelled-by-increment, incremented-ok, count-follows, entry-well-formed, later-first, later-second}
+use Rattle.protocol.specs.EntryLaws.{EntryOk, even, ahead, behind, Placed, cancelled-by-increment, incremented-ok, count-follows, fixed, entry-well-formed, later-first, later-second}
 use Rattle.protocol.specs.Rows.{WellFormed}
 use Rattle.protocol.specs.Chassis.{Message, increment, clearing, Replica, taken, units-of}
 use Rattle.protocol.specs.Algorithm1.{Slot, State, Update, inc, inc-generator, inc-effector, effector, slot-of, state-of}
 use Rattle.protocol.specs.Algorithm1Laws.{inc-effector-agrees, inc-effector-C}
 use Rattle.protocol.specs.InARow.{effectors, inc-generators, singles}
-
--- ---- one entry
-
-pub entry-is : (e f : Entry) → e .p ≡ f .p → e .n ≡ f .n → e .c ≡ f .c → e ≡ f
-entry-is e f a b c = rw (a, b, c)
-
--- two marks fix the entry
-fixed : (R X : Mark) (e f : Entry) → EntryOk R X e → EntryOk R X f → e ≡ f
-fixed R X e f (even s i j l) (even s′ i′ j′ l′) = entry-is e f (omega arith) (omega arith) (omega arith)
-fixed R X e f (even s i j l) (ahead s′ i′ j′ l′) = absurd (omega arith)
-fixed R X e f (even s i j l) (behind s′ i′ j′ l′) = absurd (omega arith)
-fixed R X e f (ahead s i j l) (even s′ i′ j′ l′) = absurd (omega arith)
-fixed R X e f (ahead s i j l) (ahead s′ i′ j′ l′) = entry-is e f (omega arith) (omega arith) (omega arith)
-fixed R X e f (ahead s i j l) (behind s′ i′ j′ l′) = absurd (omega arith)
-fixed R X e f (behind s i j l) (even s′ i′ j′ l′) = absurd (omega arith)
-fixed R X e f (behind s i j l) (ahead s′ i′ j′ l′) = absurd (omega arith)
-fixed R X e f (behind s i j l) (behind s′ i′ j′ l′) = entry-is e f (omega arith) (omega arith) (omega arith)
 
 -- ---- how far names are cancelled, once an increment is taken
 
@@ -89,7 +72,7 @@ module _ (R X : Mark) (p : ℕ) (start : Bool) (k : Proper R) (f : Follows R 1 p
       let one = incremented-ok R X e 1 p start k kx f (placed-first w some pl) o in
       let two = incremented-ok (after-increment 1 p start R) X₁ _ w (p + w) false (Proper-increment R 1 p start k f) (cancelled-proper start R X k kx) (follows-second w some)
       (rw (same-mark R p start w) (placed-second w some pl)) one in
-      fixed (after-increment (suc w) (p + w) start R) X₁ _ _ (rw (same-mark R p start w) at two)
+      fixed (after-increment (suc w) (p + w) start R) X₁ X₁ _ _ (inl (Before-refl X₁)) refl (rw (same-mark R p start w) at two)
       (incremented-ok R X e (suc w) (p + w) start k kx (follows-both w) pl o)
 
 -- ---- states

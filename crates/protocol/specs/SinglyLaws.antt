@@ -20,7 +20,7 @@ use Rattle.protocol.specs.Runs.{after-run, ledger-after}
 use Rattle.protocol.specs.Algorithm1.{Slot, p-of, n-of, c-of, Update, reset-generator, inc-generator, effector, slot-of}
 use Rattle.protocol.specs.Algorithm1Laws.{Whole, well-formed-whole, slot-p, slot-n, slot-c}
 use Rattle.protocol.specs.Entry.{Entry}
-use Rattle.protocol.specs.InARowLaws.{entry-is}
+use Rattle.protocol.specs.EntryLaws.{entry-is}
 use Rattle.protocol.specs.InARow.{effectors, inc-generators, Instances, instance, Lot, effected, System, initial, made, next-lot, rest-lots, handed, entered, fed, instances-of, singles, updates-of}
 use Rattle.protocol.specs.InARowRuns.{well-formed, lot-of, instances-are, Same, fresh-same, its-message, link, step-same}
 use Rattle.protocol.specs.Singly.{times, singles-in, single-steps, expanded, in-single-steps}
