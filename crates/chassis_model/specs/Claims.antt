@@ -42,14 +42,13 @@ pub ledger-theorem-over-bytes : (r k L : ℕ) (bytes words logs answers : List �
     → read-on (part (replica-length r k) (after .words) i) q ≡ ledger-reading r i (ledger-of r q (steps-of bytes) (after .answers))
 ledger-theorem-over-bytes = theorem.ledger-theorem-over-bytes
 
--- Cards that have received all that was made agree: after any list of steps, two cards whose N of every card is that card's own N read the same of every counter,
--- the whole of it: number, value, holding cards and how many.
-pub all-received-agree : (r k L : ℕ) (steps : List Step) (words logs answers : List ℕ) → sizes-right r k L (length steps) words logs answers ≡ true
+-- Cards that have received the same messages read alike: after any list of steps, two cards with the same N of every card, their own included, read the same of
+-- every counter, the whole of it: number, value, holding cards and how many. In whatever order the messages came, and whatever else is under way.
+pub same-messages-same-reads : (r k L : ℕ) (steps : List Step) (words logs answers : List ℕ) → sizes-right r k L (length steps) words logs answers ≡ true
     → let card = part (replica-length r k) (run-on r k L steps words logs answers .words) in
-    (i j : ℕ) → i < r → j < r
-    → ((s : ℕ) → s < r → N-of r (card i) s ≡ N-of r (card s) s) → ((s : ℕ) → s < r → N-of r (card j) s ≡ N-of r (card s) s)
+    (i j : ℕ) → i < r → j < r → ((s : ℕ) → s < r → N-of r (card i) s ≡ N-of r (card j) s)
     → (q : ℕ) → q < k → read-on (card i) q ≡ read-on (card j) q
-all-received-agree = theorem.all-received-agree
+same-messages-same-reads = theorem.same-messages-same-reads
 
 -- ACCEPTED SIZES. A run over records answers 0 exactly when its sizes are right. Otherwise it answers 11, and words, logs and answers are as they were.
 pub accepted-sizes : (r k L : ℕ) (steps : List Step) (words logs answers : List ℕ)

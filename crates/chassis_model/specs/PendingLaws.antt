@@ -30,7 +30,7 @@ use Rattle.chassis_model.specs.Stepping.{step-of-kind}
 use Rattle.chassis_model.specs.Delivered.{one-delivered, delivered-is-alike}
 use Rattle.chassis_model.specs.Steps.{link-matches}
 use Rattle.chassis_model.specs.Theorem.{run-matches, state-run}
-use Rattle.chassis_model.specs.Agreement.{reads-agree}
+use Rattle.chassis_model.specs.Agreement.{same-reads, received-all}
 use Rattle.chassis_model.specs.Pending.{state-links, pump, all-waiting, pump-steps, Checked}
 
 -- a state that a run, and deliveries behind it, can reach
@@ -162,6 +162,7 @@ module _ (r k L : ℕ) (steps : List Step) (logs : List ℕ) (z : Sizes r k) (fi
       let none : (i s : ℕ) → IsLink r i s → state-links r k L .waiting i s (state-after r k L all start) ≡ 0
       = rw call-is-steps at
       (drained (state-links r k L) r b (Reached r k L) (reached-orderly r k L) st (reached steps) (λ i s is. never-passes i s) enough) in
-      rw call-is-steps
-      (reads-agree r k _ _ _ (state-run r k L all logs z fits) i j hi hj
-      (λ s is. let e = none i s is in omega arith) (λ s is. let e = none j s is in omega arith) q hq)
+      let ran = state-run r k L all logs z fits in
+      let has-all : (i : ℕ) → i < r → (s : ℕ) → s < r → N-at r k L (state-after r k L all start) i s ≡ N-at r k L (state-after r k L all start) s s
+      = λ i hi. received-all r k _ _ _ ran i hi (λ s is. let e = none i s is in omega arith) in
+      rw call-is-steps (same-reads r k _ _ _ ran i j hi hj (λ s hs. has-all i hi s hs ∙ sym (has-all j hj s hs)) q hq)

@@ -3,7 +3,6 @@ use Prim.Native.Nat.{ℕ, _*_, _<_}
 use mathlib.Core.Path.{_≡_, refl, ap, ap₂, _∙_}
 use mathlib.Core.Bool.{Bool, true}
 use mathlib.Core.List.{List, [], _∷_, _++_, map}
-use native.Mathlib.Omega.{arith}
 use lib.ListN.{length, getD}
 use Rattle.protocol.specs.Ledger as ledger
 use Rattle.protocol.specs.Ledger.{Ledger, empty-ledger, kept}
@@ -23,7 +22,7 @@ use Rattle.chassis_model.specs.Fresh.{fresh-matches}
 use Rattle.chassis_model.specs.Steps.{step-matches}
 use Rattle.chassis_model.specs.Offers.{offers-of, TheoryRun}
 use Rattle.chassis_model.specs.TheoryReads.{reading-is}
-use Rattle.chassis_model.specs.Agreement.{reads-agree}
+use Rattle.chassis_model.specs.Agreement.{same-reads}
 use Rattle.chassis_model.specs.RunLaws.{accepted-sizes, whole-steps, accepted-sizes-over-bytes}
 use Rattle.chassis_model.specs.AnswerLaws.{step-answer, answer-at, due-is-answer}
 
@@ -101,16 +100,13 @@ ledger-theorem-over-bytes r k L bytes words logs answers accepted =
     let same = whole-steps r k L bytes words logs answers (accepted-sizes-over-bytes r k L bytes words logs answers .0 .0 accepted .0) in
     rw same (ledger-theorem-over-records r k L (steps-of bytes) words logs answers (rw same at accepted))
 
--- ---- cards that have received all
+-- ---- cards that have received the same messages
 
-pub all-received-agree : (r k L : ℕ) (steps : List Step) (words logs answers : List ℕ) → sizes-right r k L (length steps) words logs answers ≡ true
+pub same-messages-same-reads : (r k L : ℕ) (steps : List Step) (words logs answers : List ℕ) → sizes-right r k L (length steps) words logs answers ≡ true
     → let card = part (replica-length r k) (run-on r k L steps words logs answers .words) in
-    (i j : ℕ) → i < r → j < r
-    → ((s : ℕ) → s < r → N-of r (card i) s ≡ N-of r (card s) s) → ((s : ℕ) → s < r → N-of r (card j) s ≡ N-of r (card s) s)
+    (i j : ℕ) → i < r → j < r → ((s : ℕ) → s < r → N-of r (card i) s ≡ N-of r (card j) s)
     → (q : ℕ) → q < k → read-on (card i) q ≡ read-on (card j) q
-all-received-agree r k L steps words logs answers right i j hi hj all all′ =
-    reads-agree r k _ _ _ (theory-run r k L steps words logs answers right) i j hi hj
-    (λ s is. let e = all s (is .1) in omega arith) (λ s is. let e = all′ s (is .1) in omega arith)
+same-messages-same-reads r k L steps words logs answers right = same-reads r k _ _ _ (theory-run r k L steps words logs answers right)
 
 -- ---- answers
 
