@@ -1,13 +1,16 @@
 -- CLAIMS. What `DriverClaims.same-messages-same-reads` and `all-received-agree` ask for, computed on the definitions: histories after which two cards agree, and one
 -- for each thing asked that shows cards which disagree without it.
-use Prim.Native.Nat.{ℕ}
+use Prim.Native.Nat.{ℕ, zero, suc, _<_}
 use mathlib.Core.Path.{_≡_, refl}
-use mathlib.Core.Logic.{inl, inr}
+use mathlib.Core.Logic.{inl, inr, _↔_}
+use native.Mathlib.Omega.{arith}
 use mathlib.Core.List.{List, [], _∷_, _++_}
 use mathlib.Core.Bool.{Bool, true, false}
 use lib.Dec.{eqb}
+use borrow.Author.Tests.{ne-eqb}
 use lib.ListN.{length, getD, replicate}
 use Rattle.protocol.specs.Tables.{put, sum, bits}
+use Rattle.protocol.specs.RoundRobin.{IsLink, link, times}
 use Rattle.protocol.specs.Entry.{incremented, cleared}
 use Rattle.protocol.specs.Chassis.{count-message, present-entries, clear-message, read-value, read-holders}
 use Rattle.protocol.specs.Stores.{cleared-words, taken-words, shown}
@@ -130,4 +133,20 @@ examples-hold = (
   refl,
   refl,
   refl,
+)
+
+-- The links of two cards, for `resent-agree`.
+pub both-links : (i s : ℕ) → (0 < times i s (link 0 1 ∷ link 1 0 ∷ [])) ↔ IsLink 2 i s
+unfolding times
+both-links zero zero = (λ h. absurd (omega (arith, h)), λ l. absurd (l .2 refl))
+both-links zero (suc zero) = (λ h. (omega arith, omega arith, λ e. omega (arith, e)), λ l. omega arith)
+both-links (suc zero) zero = (λ h. (omega arith, omega arith, λ e. omega (arith, e)), λ l. omega arith)
+both-links (suc zero) (suc zero) = (λ h. absurd (omega (arith, h)), λ l. absurd (l .2 refl))
+both-links zero (suc (suc s)) =
+    (λ h. let z = rw (ne-eqb (suc (suc s)) 1 (λ e. omega (arith, e))) at h in absurd (omega (arith, z)), λ l. absurd (omega (arith, l .1)))
+both-links (suc zero) (suc (suc s)) =
+    (λ h. let z = rw (ne-eqb (suc (suc s)) 0 (λ e. omega (arith, e))) at h in absurd (omega (arith, z)), λ l. absurd (omega (arith, l .1)))
+both-links (suc (suc i)) s = (
+  λ h. let z = rw (ne-eqb (suc (suc i)) 0 (λ e. omega (arith, e)), ne-eqb (suc (suc i)) 1 (λ e. omega (arith, e))) at h in absurd (omega (arith, z)),
+  λ l. absurd (omega (arith, l .0)),
 )

@@ -69,6 +69,7 @@ pub mod Spans
 pub mod DriverMatches
 pub mod DriverSteps
 pub mod DriverResends
+pub mod DriverResendsAll
 pub mod DriverSame
 pub mod DriverTheorem
 pub mod DriverAlone
