@@ -9,13 +9,14 @@
  * any order, with any counters, buffers and bytes, over a network that may
  * lose, repeat, reorder and damage messages. After every such history a read
  * of any counter on any card is accepted, and is what the counter's ledger has
- * for that card, fed the accepted calls; and no call moves a counter other
- * than its own. yelansub_take answers a message that its sender wrote with 0
- * if it is the next of that sender, 8 if it was taken before, 9 if an earlier
- * one is missing, 7 on the sender itself, and nothing else. What was answered
- * 0 or 8 is answered 8 ever after, and all of a card's messages, sent again in
- * order, are answered 0 or 8 each time, whatever was lost. So a driver that
- * sends again until it is answered 0 or 8 is right (examples/resend.c).
+ * for that card, fed the accepted calls; cards that have received the same
+ * messages read alike; and no call moves a counter other than its own.
+ * yelansub_take answers a message that its sender wrote with 0 if it is the
+ * next of that sender, 8 if it was taken before, 9 if an earlier one is
+ * missing, 7 on the sender itself, and nothing else. What was answered 0 or 8
+ * is answered 8 ever after, and all of a card's messages, sent again in order,
+ * are answered 0 or 8 each time, whatever was lost. So a driver that sends
+ * again until it is answered 0 or 8 is right (examples/resend.c).
  *
  * What the driver has to keep for that:
  *   - No forged message is accepted: bytes that yelansub_take answers with 0
