@@ -11,15 +11,15 @@ use lib.ListN.{length, drop}
 use lib.Seq.{take-at, drop-at, drop-drop}
 use lib.Dec.{eqb}
 use borrow.Author.Tests.{le-leb, lt-ltb, eq-eqb, ne-eqb}
-use Rattle.protocol.specs.Limits.{card-limit, counter-limit}
+use Rattle.protocol.specs.Limits.{most-cards, most-counters}
 use Rattle.protocol.specs.Cases.{by-place}
 use Rattle.replica_model.specs.Layout.{replica-length, fresh-words}
 use Rattle.replica_model.specs.Calls.{sizes-in-range, open-on}
-use Rattle.replica_model.specs.Terms.{Sizes}
+use Rattle.replica_model.specs.ClaimTerms.{Sizes}
 use Rattle.replica_model.specs.RowLaws.{sizes, tests}
-use Rattle.chassis_model.specs.Parts.{put-part}
+use Rattle.chassis_model.specs.ListParts.{put-part}
 use Rattle.chassis_model.specs.Run.{sizes-right, fresh-replicas}
-use Rattle.chassis_model.specs.Fresh.{fresh-length}
+use Rattle.chassis_model.specs.FreshRun.{fresh-length}
 
 -- ---- sizes
 
@@ -62,9 +62,9 @@ unfolding open-on sizes-in-range
 opened r k own b sized inside long =
     rw (
       le-leb 1 r (sized .some-cards),
-      le-leb r card-limit (sized .few-cards),
+      le-leb r most-cards (sized .few-cards),
       le-leb 1 k (sized .some-counters),
-      le-leb k counter-limit (sized .few-counters),
+      le-leb k most-counters (sized .few-counters),
       lt-ltb own r inside,
       eq-eqb (length b) (replica-length r k) long,
     )

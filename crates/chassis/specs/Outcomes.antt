@@ -7,22 +7,22 @@ use native.Mathlib.Nat.{div-add-mod}
 use native.Mathlib.Omega.{arith}
 use lib.ListN.{length, replicate}
 use borrow.Author.Tests.{eq-eqb, ne-eqb}
-use Rattle.protocol.specs.Limits.{wrong-sizes}
+use Rattle.protocol.specs.Limits.{bad-sizes}
 use Rattle.replica_model.specs.Layout.{replica-length}
 use Rattle.chassis_model.specs.Run.{RunOutcome, sizes-right, fresh-replicas, run-on, steps-of, run-bytes-on}
 use Rattle.chassis_model.specs.RunLaws.{steps-length}
 use Rattle.chassis_model.specs.Places.{fresh-reached}
 use Rattle.chassis.specs.declared.Sizes.{Sizes}
 use Rattle.chassis.specs.Begin.{lengths-right, sizes-by-length, right-lengths}
-use Rattle.chassis.specs.Turns.{Given, Ended}
+use Rattle.chassis.specs.Turns.{StepReady, RunDone}
 
 abbrev pub sizes-of : ℕ → ℕ → ℕ → ℕ → Sizes
-sizes-of r k L size = record { cards = r; counters = k; capacity = L; replica = size }
+sizes-of r k L size = record { cards = r; counters = k; «log_bytes» = L; replica = size }
 
 module _ (r k L : ℕ) (bytes words logs answers : List ℕ) where
   -- what a declined run leaves
   abbrev pub declined : RunOutcome
-  declined = record { number = wrong-sizes; words = words; logs = logs; answers = answers }
+  declined = record { number = bad-sizes; words = words; logs = logs; answers = answers }
 
   pub run-uneven : (length bytes % 12 ≡ 0 → ⊥) → declined ≡ run-bytes-on r k L bytes words logs answers
   unfolding run-bytes-on
@@ -41,14 +41,14 @@ module _ (r k L : ℕ) (bytes words logs answers : List ℕ) where
     module _ (right : lengths-right r k L (length bytes / 12) (length words) (length logs) (length answers) ≡ true) where
       -- what the steps are given
       pub steps-given : (size : ℕ) (fresh : List ℕ) → size ≡ replica-length r k → fresh ≡ fresh-replicas r k r
-          → Given (sizes-of r k L size) fresh logs (replicate 256 0) × (length bytes ≡ 12 * length answers)
+          → StepReady (sizes-of r k L size) fresh logs (replicate 256 0) × (length bytes ≡ 12 * length answers)
       steps-given size fresh long made =
           let facts = right-lengths r k L (length bytes / 12) (length words) (length logs) (length answers) right in
           let all : length bytes ≡ 12 * length answers = rw (facts .answers-fit) (omega (arith, div-add-mod (length bytes) 12)) in
           (record { replica-is = long; reached = rw made (fresh-reached r k L logs (facts .sized) (facts .logs-fit)) }, all)
 
       pub run-done : (size : ℕ) (fresh words′ logs′ answers′ : List ℕ) → fresh ≡ fresh-replicas r k r
-          → Ended (sizes-of r k L size) (steps-of bytes) fresh logs words′ logs′ answers′
+          → RunDone (sizes-of r k L size) (steps-of bytes) fresh logs words′ logs′ answers′
           → _≡_ {A = RunOutcome} (record { number = 0; words = words′; logs = logs′; answers = answers′ }) (run-bytes-on r k L bytes words logs answers)
       unfolding run-bytes-on run-on
       run-done size fresh words′ logs′ answers′ made ended =

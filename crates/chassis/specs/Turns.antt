@@ -7,7 +7,7 @@ use native.Mathlib.Omega.{arith}
 use lib.Dec.{eqb, ltb}
 use lib.Seq.{getD-set-same, length-take-le}
 use lib.ListN.{length, take, drop, set, getD, length-set}
-use Rattle.protocol.specs.Limits.{output-too-short, no-such-card, no-such-step, none-waiting, log-too-short}
+use Rattle.protocol.specs.Limits.{short-output, bad-card, bad-kind, nothing-waiting, log-full}
 use Rattle.wire.specs.Message.{called-length}
 use Rattle.replica_model.specs.declared.Sent.{Sent}
 use Rattle.replica_model.specs.declared.Taken.{Taken}
@@ -15,11 +15,11 @@ use Rattle.replica_model.specs.Layout.{replica-length}
 use Rattle.replica_model.specs.Calls.{SendOutcome, TakeOutcome, take-on}
 use Rattle.chassis.specs.declared.Sizes.{Sizes}
 use Rattle.chassis_model.specs.declared.Step.{Step}
-use Rattle.chassis_model.specs.Parts.{part, put-part}
+use Rattle.chassis_model.specs.ListParts.{part, put-part}
 use Rattle.chassis_model.specs.Log.{waiting-part}
 use borrow.Author.Tests.{le-ltb, lt-ltb, ltb-true, ne-eqb, eqb-false, not-true}
 use Rattle.protocol.specs.Cases.{and-left, and-right}
-use Rattle.chassis_model.specs.PartLaws.{part-room, part-length}
+use Rattle.chassis_model.specs.ListPartsLaws.{part-room, part-length}
 use Rattle.chassis_model.specs.Run.{State, Stepped, N-at, count-kind, clear-kind, deliver-kind, cards-right, made, delivered, step-on, state-after, answers-of}
 use Rattle.chassis_model.specs.Places.{Reached, free-place-is, place-inside, waits-at, made-reached, delivered-reached}
 use Rattle.chassis_model.specs.Sends.{call-of}
@@ -28,14 +28,14 @@ abbrev pub state-of : List ℕ → List ℕ → State
 state-of words logs = record { words = words; logs = logs }
 
 -- a state that a run of these sizes has reached, with the place of each link's next message
-pub record Given (z : Sizes) (words logs places : List ℕ) : Type 0 where
+pub record StepReady (z : Sizes) (words logs places : List ℕ) : Type 0 where
   pub replica-is : z .replica ≡ replica-length (z .cards) (z .counters)
-  pub reached : Reached (z .cards) (z .counters) (z .capacity) (state-of words logs) places
+  pub reached : Reached (z .cards) (z .counters) (z .«log_bytes») (state-of words logs) places
 
 -- what is due was done, and the places moved along
-pub record Did (z : Sizes) (due : Stepped) (answer : ℕ) (words logs places : List ℕ) : Type 0 where
+pub record StepDone (z : Sizes) (due : Stepped) (answer : ℕ) (words logs places : List ℕ) : Type 0 where
   pub outcome : _≡_ {A = Stepped} (record { answer = answer; state = state-of words logs }) due
-  pub given : Given z words logs places
+  pub given : StepReady z words logs places
 
 -- a call with the rest of a log as its output
 unfoldable pub appended : Bool → ℕ → List ℕ → List ℕ → ℕ → SendOutcome
@@ -44,24 +44,24 @@ appended counts counter b log at =
     record { answer = done .answer; words = done .words; out = take at log ++ done .out }
 
 -- turn i is done: its answer stands in its place, and n is the next
-pub record Turned (z : Sizes) (s : Step) (i : ℕ) (words logs answers words′ logs′ answers′ places′ : List ℕ) (n : ℕ) : Type 0 where
+pub record StepAnswered (z : Sizes) (s : Step) (i : ℕ) (words logs answers words′ logs′ answers′ places′ : List ℕ) (n : ℕ) : Type 0 where
   pub next : n ≡ i + 1
-  pub given : Given z words′ logs′ places′
-  pub state-is : state-of words′ logs′ ≡ step-on (z .cards) (z .counters) (z .capacity) s (state-of words logs) .state
-  pub answers-are : answers′ ≡ set answers i (step-on (z .cards) (z .counters) (z .capacity) s (state-of words logs) .answer)
+  pub given : StepReady z words′ logs′ places′
+  pub state-is : state-of words′ logs′ ≡ step-on (z .cards) (z .counters) (z .«log_bytes») s (state-of words logs) .state
+  pub answers-are : answers′ ≡ set answers i (step-on (z .cards) (z .counters) (z .«log_bytes») s (state-of words logs) .answer)
 
 pub answers-long : {z : Sizes} {s : Step} {i : ℕ} {words logs answers words′ logs′ answers′ places′ : List ℕ} {n : ℕ}
-    → Turned z s i words logs answers words′ logs′ answers′ places′ n → length answers′ ≡ length answers
+    → StepAnswered z s i words logs answers words′ logs′ answers′ places′ n → length answers′ ≡ length answers
 answers-long done = ap length (done .answers-are) ∙ simp length-set
 
 -- all steps are done, from the first state on
-pub record Ended (z : Sizes) (steps : List Step) (words logs words′ logs′ answers′ : List ℕ) : Type 0 where
-  pub state-is : state-of words′ logs′ ≡ state-after (z .cards) (z .counters) (z .capacity) steps (state-of words logs)
-  pub answers-are : answers′ ≡ answers-of (z .cards) (z .counters) (z .capacity) steps (state-of words logs)
+pub record RunDone (z : Sizes) (steps : List Step) (words logs words′ logs′ answers′ : List ℕ) : Type 0 where
+  pub state-is : state-of words′ logs′ ≡ state-after (z .cards) (z .counters) (z .«log_bytes») steps (state-of words logs)
+  pub answers-are : answers′ ≡ answers-of (z .cards) (z .counters) (z .«log_bytes») steps (state-of words logs)
 
 -- ---- what a step is given
 
-module _ (z : Sizes) (words logs places : List ℕ) (g : Given z words logs places) where
+module _ (z : Sizes) (words logs places : List ℕ) (g : StepReady z words logs places) where
   abbrev st : State
   st = state-of words logs
 
@@ -72,26 +72,26 @@ module _ (z : Sizes) (words logs places : List ℕ) (g : Given z words logs plac
   pub words-room : (card : ℕ) → card < z .cards → card * z .replica + z .replica ≤ length words
   words-room card below = rw (g .reached .matches .words-fit, g .replica-is) (part-room card (z .cards) (replica-length (z .cards) (z .counters)) below)
 
-  pub logs-room : (card : ℕ) → card < z .cards → card * z .capacity + z .capacity ≤ length logs
-  logs-room card below = rw (g .reached .matches .logs-fit) (part-room card (z .cards) (z .capacity) below)
+  pub logs-room : (card : ℕ) → card < z .cards → card * z .«log_bytes» + z .«log_bytes» ≤ length logs
+  logs-room card below = rw (g .reached .matches .logs-fit) (part-room card (z .cards) (z .«log_bytes») below)
 
-  pub log-long : (card : ℕ) → card < z .cards → length (part (z .capacity) logs card) ≡ z .capacity
-  log-long card below = part-length (z .cards) (z .capacity) card logs (g .reached .matches .logs-fit) below
+  pub log-long : (card : ℕ) → card < z .cards → length (part (z .«log_bytes») logs card) ≡ z .«log_bytes»
+  log-long card below = part-length (z .cards) (z .«log_bytes») card logs (g .reached .matches .logs-fit) below
 
-  pub place-small : (i s : ℕ) → i < z .cards → s < z .cards → getD places (16 * i + s) 0 ≤ z .capacity
-  place-small i s hi hs = place-inside (z .cards) (z .counters) (z .capacity) st places (g .reached) i s hi hs
+  pub place-small : (i s : ℕ) → i < z .cards → s < z .cards → getD places (16 * i + s) 0 ≤ z .«log_bytes»
+  place-small i s hi hs = place-inside (z .cards) (z .counters) (z .«log_bytes») st places (g .reached) i s hi hs
 
   -- count and clear
   pub made-did : (counts : Bool) (card counter at a : ℕ) (answer : Sent) (b log : List ℕ) → card < z .cards → at ≡ getD places (16 * card + card) 0
-      → _≡_ {A = SendOutcome} (record { answer = answer; words = b; out = log }) (appended counts counter (part (z .replica) words card) (part (z .capacity) logs card) at)
-      → a ≡ cond (eqb (answer .number) output-too-short) log-too-short (answer .number)
-      → Did z (made (z .cards) (z .counters) (z .capacity) card (call-of counts counter) st) a
-      (put-part (z .replica) card b words) (put-part (z .capacity) card log logs) (set places (16 * card + card) (at + answer .length))
+      → _≡_ {A = SendOutcome} (record { answer = answer; words = b; out = log }) (appended counts counter (part (z .replica) words card) (part (z .«log_bytes») logs card) at)
+      → a ≡ cond (eqb (answer .number) short-output) log-full (answer .number)
+      → StepDone z (made (z .cards) (z .counters) (z .«log_bytes») card (call-of counts counter) st) a
+      (put-part (z .replica) card b words) (put-part (z .«log_bytes») card log logs) (set places (16 * card + card) (at + answer .length))
   unfolding made appended
   made-did counts card counter at a answer b log below here done number =
       let r = z .cards in
       let k = z .counters in
-      let L = z .capacity in
+      let L = z .«log_bytes» in
       let call : SendOutcome = call-of counts counter (part (replica-length r k) words card) (drop (getD places (16 * card + card) 0) (part L logs card)) in
       let now-done = rw (here, g .replica-is) at done in
       let answer-is : answer ≡ call .answer = ap (λ o. o .answer) now-done in
@@ -109,41 +109,41 @@ module _ (z : Sizes) (words logs places : List ℕ) (g : Given z words logs plac
 
   -- the place it leaves lies inside the log
   pub made-place : (counts : Bool) (card counter at : ℕ) (answer : Sent) (b log : List ℕ) → card < z .cards → at ≡ getD places (16 * card + card) 0
-      → _≡_ {A = SendOutcome} (record { answer = answer; words = b; out = log }) (appended counts counter (part (z .replica) words card) (part (z .capacity) logs card) at)
-      → at + answer .length ≤ z .capacity
+      → _≡_ {A = SendOutcome} (record { answer = answer; words = b; out = log }) (appended counts counter (part (z .replica) words card) (part (z .«log_bytes») logs card) at)
+      → at + answer .length ≤ z .«log_bytes»
   made-place counts card counter at answer b log below here done =
       let did = made-did counts card counter at _ answer b log below here done refl in
       let few = g .reached .matches .cards .sizes .few-cards in
       let inside : 16 * card + card < length places = omega (arith, g .reached .places-are .size) in
       rw (getD-set-same places (16 * card + card) (at + answer .length) 0 inside) at
-      (place-inside (z .cards) (z .counters) (z .capacity) _ _ (did .given .reached) card card below below)
+      (place-inside (z .cards) (z .counters) (z .«log_bytes») _ _ (did .given .reached) card card below below)
 
   -- a deliver with nothing waiting
-  pub none-did : (i s : ℕ) → N-at (z .cards) (z .counters) (z .capacity) st s s ≤ N-at (z .cards) (z .counters) (z .capacity) st i s
-      → Did z (delivered (z .cards) (z .counters) (z .capacity) i s st) none-waiting words logs places
+  pub none-did : (i s : ℕ) → N-at (z .cards) (z .counters) (z .«log_bytes») st s s ≤ N-at (z .cards) (z .counters) (z .«log_bytes») st i s
+      → StepDone z (delivered (z .cards) (z .counters) (z .«log_bytes») i s st) nothing-waiting words logs places
   unfolding delivered
   none-did i s none = record { outcome = rw (le-ltb _ _ none); given = g }
 
   -- a deliver of the message that waits
   one-taken : (i s : ℕ) (answer : Taken) (b message : List ℕ)
-      → N-at (z .cards) (z .counters) (z .capacity) st i s < N-at (z .cards) (z .counters) (z .capacity) st s s
-      → message ≡ waiting-part (suc (N-at (z .cards) (z .counters) (z .capacity) st i s)) (part (z .capacity) logs s)
+      → N-at (z .cards) (z .counters) (z .«log_bytes») st i s < N-at (z .cards) (z .counters) (z .«log_bytes») st s s
+      → message ≡ waiting-part (suc (N-at (z .cards) (z .counters) (z .«log_bytes») st i s)) (part (z .«log_bytes») logs s)
       → _≡_ {A = TakeOutcome} (record { answer = answer; words = b }) (take-on (part (z .replica) words i) message)
       → _≡_ {A = Stepped} (record { answer = answer .number; state = state-of (put-part (z .replica) i b words) logs })
-      (delivered (z .cards) (z .counters) (z .capacity) i s st)
+      (delivered (z .cards) (z .counters) (z .«log_bytes») i s st)
   unfolding delivered
   one-taken i s answer b message waits waiting done =
       rw (lt-ltb _ _ waits, ← waiting, ← (g .replica-is), ← done)
 
   pub delivered-did : (i s at : ℕ) (answer : Taken) (b message : List ℕ) → i < z .cards → s < z .cards → (i ≡ s → ⊥)
-      → N-at (z .cards) (z .counters) (z .capacity) st i s < N-at (z .cards) (z .counters) (z .capacity) st s s → at ≡ getD places (16 * i + s) 0
-      → message ≡ take (called-length (drop at (part (z .capacity) logs s))) (drop at (part (z .capacity) logs s))
+      → N-at (z .cards) (z .counters) (z .«log_bytes») st i s < N-at (z .cards) (z .counters) (z .«log_bytes») st s s → at ≡ getD places (16 * i + s) 0
+      → message ≡ take (called-length (drop at (part (z .«log_bytes») logs s))) (drop at (part (z .«log_bytes») logs s))
       → _≡_ {A = TakeOutcome} (record { answer = answer; words = b }) (take-on (part (z .replica) words i) message)
-      → Did z (delivered (z .cards) (z .counters) (z .capacity) i s st) (answer .number) (put-part (z .replica) i b words) logs (set places (16 * i + s) (at + length message))
+      → StepDone z (delivered (z .cards) (z .counters) (z .«log_bytes») i s st) (answer .number) (put-part (z .replica) i b words) logs (set places (16 * i + s) (at + length message))
   delivered-did i s at answer b message hi hs apart waits here part-is done =
       let r = z .cards in
       let k = z .counters in
-      let L = z .capacity in
+      let L = z .«log_bytes» in
       let stands = waits-at r k L st places (g .reached) i s hi hs waits in
       let log = part L logs s in
       let long : length message ≡ called-length (drop at log) = rw (part-is, here) (length-take-le _ _ (stands .room)) in
@@ -174,7 +174,7 @@ cards-there a b n two =
 
 module _ (z : Sizes) (s : Step) (words logs : List ℕ) where
   abbrev due : Stepped
-  due = step-on (z .cards) (z .counters) (z .capacity) s (state-of words logs)
+  due = step-on (z .cards) (z .counters) (z .«log_bytes») s (state-of words logs)
 
   abbrev left-by : ℕ → Stepped
   left-by number = record { answer = number; state = state-of words logs }
@@ -184,34 +184,34 @@ module _ (z : Sizes) (s : Step) (words logs : List ℕ) where
     no-deliver e = false≢true (rw e at kinds)
 
     pub making-due : s .first < z .cards
-        → due ≡ made (z .cards) (z .counters) (z .capacity) (s .first) (call-of (eqb (s .kind) count-kind) (s .second)) (state-of words logs)
+        → due ≡ made (z .cards) (z .counters) (z .«log_bytes») (s .first) (call-of (eqb (s .kind) count-kind) (s .second)) (state-of words logs)
     unfolding step-on cards-right
     making-due inside = rw (kinds, ne-eqb (s .kind) deliver-kind no-deliver, lt-ltb (s .first) (z .cards) inside)
 
-    pub making-declined : z .cards ≤ s .first → due ≡ left-by no-such-card
+    pub making-declined : z .cards ≤ s .first → due ≡ left-by bad-card
     unfolding step-on cards-right
     making-declined outside = rw (kinds, ne-eqb (s .kind) deliver-kind no-deliver, le-ltb (s .first) (z .cards) outside)
 
   module _ (kinds : eqb (s .kind) count-kind || eqb (s .kind) clear-kind ≡ false) where
-    pub kind-declined : (s .kind ≡ deliver-kind → ⊥) → due ≡ left-by no-such-step
+    pub kind-declined : (s .kind ≡ deliver-kind → ⊥) → due ≡ left-by bad-kind
     unfolding step-on
     kind-declined other = rw (kinds, ne-eqb (s .kind) deliver-kind other)
 
     module _ (kind : s .kind ≡ deliver-kind) where
       -- the step's two cards, as `cards-right` has them
-      right-is : cards-right (z .cards) (z .counters) (z .capacity) s ≡ are-two (s .first) (s .second) (z .cards)
+      right-is : cards-right (z .cards) (z .counters) (z .«log_bytes») s ≡ are-two (s .first) (s .second) (z .cards)
       unfolding cards-right
       right-is = rw kind (sym (and-assoc (ltb (s .first) (z .cards)) (ltb (s .second) (z .cards)) (not (eqb (s .first) (s .second)))))
 
       pub delivering-due : are-two (s .first) (s .second) (z .cards) ≡ true
-          → due ≡ delivered (z .cards) (z .counters) (z .capacity) (s .first) (s .second) (state-of words logs)
+          → due ≡ delivered (z .cards) (z .counters) (z .«log_bytes») (s .first) (s .second) (state-of words logs)
       unfolding step-on
       delivering-due two = rw (right-is, two, kind)
 
-      pub delivering-declined : are-two (s .first) (s .second) (z .cards) ≡ false → due ≡ left-by no-such-card
+      pub delivering-declined : are-two (s .first) (s .second) (z .cards) ≡ false → due ≡ left-by bad-card
       unfolding step-on
       delivering-declined two = rw (right-is, two, kind)
 
   -- a step that declines leaves all as it is
-  pub declined-did : (places : List ℕ) (number : ℕ) → Given z words logs places → due ≡ left-by number → Did z due number words logs places
+  pub declined-did : (places : List ℕ) (number : ℕ) → StepReady z words logs places → due ≡ left-by number → StepDone z due number words logs places
   declined-did places number g declines = record { outcome = sym declines; given = g }

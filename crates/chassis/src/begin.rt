@@ -6,8 +6,8 @@ ghost use Prim.Native.Nat.{_*_, _≤_, _<_};
 ghost use lib.ListN.{length};
 ghost use lib.Dec.{eqb};
 ghost use Rattle.replica_model.specs.Layout.{replica-length, fresh-words};
-ghost use Rattle.replica_model.specs.Terms.{Sizes};
-ghost use Rattle.chassis_model.specs.Parts.{put-part};
+ghost use Rattle.replica_model.specs.ClaimTerms.{Sizes};
+ghost use Rattle.chassis_model.specs.ListParts.{put-part};
 ghost use Rattle.chassis_model.specs.Run.{fresh-replicas};
 ghost use Rattle.chassis.specs.Begin.{lengths-right};
 
@@ -23,17 +23,17 @@ fn is_product(x: u64, n: u64, y: u64) -> bool
 pub fn sizes_are_right(
     r: u64,
     k: u64,
-    capacity: u64,
+    log_bytes: u64,
     steps: usize,
     words: usize,
     logs: usize,
     answers: usize,
 ) -> bool
-    ensures { λ a. ⌜ a ≡ lengths-right r k capacity steps words logs answers ⌝ }
+    ensures { λ a. ⌜ a ≡ lengths-right r k «log_bytes» steps words logs answers ⌝ }
 {
     if words::are_sizes_in_range(r, k) {
         let needed = r as usize * words::replica_words(r as usize, k as usize);
-        return (words == needed) & is_product(logs as u64, r, capacity) & (answers == steps);
+        return (words == needed) & is_product(logs as u64, r, log_bytes) & (answers == steps);
     }
     false
 }

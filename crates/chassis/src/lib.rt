@@ -9,6 +9,6 @@ pub mod steps;
 pub struct Sizes {
     pub cards: usize,
     pub counters: usize,
-    pub capacity: usize,
+    pub log_bytes: usize,
     pub replica: usize,
 }

@@ -8,12 +8,12 @@ ghost use mathlib.Core.Path.{_≡_};
 ghost use Prim.Native.Nat.{_*_, _<_};
 ghost use lib.ListN.{length, replicate};
 ghost use Rattle.chassis_model.specs.Run.{RunOutcome, run-bytes-on, steps-of};
-ghost use Rattle.chassis.specs.Turns.{Given, Ended};
+ghost use Rattle.chassis.specs.Turns.{StepReady, RunDone};
 
 // The steps, one turn after the other, from fresh replicas.
 fn run_steps(z: Sizes, bytes: &[u8], words: &mut [u64], logs: &mut [u8], answers: &mut [u64])
-    requires { ⌜ Given z (now words) (now logs) (replicate 256 0) × (length (now bytes) ≡ 12 * length (now answers)) ⌝ }
-    ensures { λ _. ⌜ Ended z (steps-of (now (bytes .entry))) (now (words .entry)) (now (logs .entry)) (now (words .exit)) (now (logs .exit)) (now (answers .exit)) ⌝ }
+    requires { ⌜ StepReady z (now words) (now logs) (replicate 256 0) × (length (now bytes) ≡ 12 * length (now answers)) ⌝ }
+    ensures { λ _. ⌜ RunDone z (steps-of (now (bytes .entry))) (now (words .entry)) (now (logs .entry)) (now (words .exit)) (now (logs .exit)) (now (answers .exit)) ⌝ }
 {
     let mut places: [u64; 256] = [0; 256];
     let mut i: usize = 0;
@@ -29,27 +29,27 @@ fn run_steps(z: Sizes, bytes: &[u8], words: &mut [u64], logs: &mut [u8], answers
 pub fn run(
     cards: u64,
     counters: u64,
-    capacity: u64,
+    log_bytes: u64,
     steps: &[u8],
     words: &mut [u64],
     logs: &mut [u8],
     answers: &mut [u64],
 ) -> u64
-    ensures { λ a. ⌜ _≡_ {A = RunOutcome} (record { number = a; words = now (words .exit); logs = now (logs .exit); answers = now (answers .exit) }) (run-bytes-on cards counters capacity (now (steps .entry)) (now (words .entry)) (now (logs .entry)) (now (answers .entry))) ⌝ }
+    ensures { λ a. ⌜ _≡_ {A = RunOutcome} (record { number = a; words = now (words .exit); logs = now (logs .exit); answers = now (answers .exit) }) (run-bytes-on cards counters «log_bytes» (now (steps .entry)) (now (words .entry)) (now (logs .entry)) (now (answers .entry))) ⌝ }
 {
     if steps.len() % 12 != 0 {
-        return protocol::WRONG_SIZES;
+        return protocol::BAD_SIZES;
     }
     if !begin::sizes_are_right(
         cards,
         counters,
-        capacity,
+        log_bytes,
         steps.len() / 12,
         words.len(),
         logs.len(),
         answers.len(),
     ) {
-        return protocol::WRONG_SIZES;
+        return protocol::BAD_SIZES;
     }
     let r = cards as usize;
     let k = counters as usize;
@@ -57,7 +57,7 @@ pub fn run(
     let z = Sizes {
         cards: r,
         counters: k,
-        capacity: capacity as usize,
+        log_bytes: log_bytes as usize,
         replica: words::replica_words(r, k),
     };
     run_steps(z, steps, words, logs, answers);

@@ -13,14 +13,14 @@ ghost use mathlib.Core.List.{List};
 ghost use Prim.Native.Nat.{ℕ, _+_, _*_, _≤_, _<_};
 ghost use lib.ListN.{length, take, drop};
 ghost use lib.Dec.{eqb};
-ghost use Rattle.protocol.specs.Limits.{output-too-short, log-too-short};
+ghost use Rattle.protocol.specs.Limits.{short-output, log-full};
 ghost use Rattle.wire.specs.Message.{called-length};
 ghost use Rattle.replica_model.specs.Layout.{replica-length};
 ghost use Rattle.replica_model.specs.Calls.{SendOutcome};
 ghost use Rattle.chassis_model.specs.Sends.{call-of};
 ghost use Rattle.chassis_model.specs.Run.{made, delivered, step-on, N-at};
 ghost use Rattle.chassis.specs.PartOf.{PartOf};
-ghost use Rattle.chassis.specs.Turns.{state-of, Given, Did, appended, Turned};
+ghost use Rattle.chassis.specs.Turns.{state-of, StepReady, StepDone, appended, StepAnswered};
 
 pub const COUNT: u32 = 1;
 
@@ -55,10 +55,10 @@ fn append(counts: bool, replica: &mut [u64], counter: u64, log: &mut [u8], at: u
 
 // A log is a step's output, so number 5 becomes 14.
 fn step_number(number: u64) -> u64
-    ensures { λ a. ⌜ a ≡ cond (eqb number output-too-short) log-too-short number ⌝ }
+    ensures { λ a. ⌜ a ≡ cond (eqb number short-output) log-full number ⌝ }
 {
-    if number == protocol::OUTPUT_TOO_SHORT {
-        return protocol::LOG_TOO_SHORT;
+    if number == protocol::SHORT_OUTPUT {
+        return protocol::LOG_FULL;
     }
     number
 }
@@ -73,15 +73,15 @@ fn make(
     logs: &mut [u8],
     places: &mut [u64; 256],
 ) -> u64
-    requires { ⌜ Given z (now words) (now logs) (now places) × (card < z .cards) ⌝ }
-    ensures { λ a. ⌜ Did z (made (z .cards) (z .counters) (z .capacity) card (call-of counts counter) (state-of (now (words .entry)) (now (logs .entry)))) a (now (words .exit)) (now (logs .exit)) (now (places .exit)) ⌝ }
+    requires { ⌜ StepReady z (now words) (now logs) (now places) × (card < z .cards) ⌝ }
+    ensures { λ a. ⌜ StepDone z (made (z .cards) (z .counters) (z .«log_bytes») card (call-of counts counter) (state-of (now (words .entry)) (now (logs .entry)))) a (now (words .exit)) (now (logs .exit)) (now (places .exit)) ⌝ }
 {
     let own = link(card, card);
     let at = places[own];
     let from = card * z.replica;
     let to = from + z.replica;
-    let start = card * z.capacity;
-    let end = start + z.capacity;
+    let start = card * z.log_bytes;
+    let end = start + z.log_bytes;
     let sent = append(
         counts,
         &mut words[from..to],
@@ -96,7 +96,7 @@ fn make(
 // N of `sender` in the replica of card `card`.
 fn received(z: Sizes, words: &[u64], card: usize, sender: usize) -> u64
     requires { ⌜ (z .replica ≡ replica-length (z .cards) (z .counters)) × (length (now words) ≡ z .cards * z .replica) × (z .cards ≤ 16) × (z .counters ≤ 64) × (card < z .cards) × (sender < z .cards) ⌝ }
-    ensures { λ a. ⌜ ((logs : List ℕ) → a ≡ N-at (z .cards) (z .counters) (z .capacity) (state-of (now (words .entry)) logs) card sender) ⌝ }
+    ensures { λ a. ⌜ ((logs : List ℕ) → a ≡ N-at (z .cards) (z .counters) (z .«log_bytes») (state-of (now (words .entry)) logs) card sender) ⌝ }
 {
     let from = card * z.replica;
     let to = from + z.replica;
@@ -123,18 +123,18 @@ fn deliver(
     logs: &[u8],
     places: &mut [u64; 256],
 ) -> u64
-    requires { ⌜ Given z (now words) (now logs) (now places) × (receiver < z .cards) × (sender < z .cards) × (receiver ≡ sender → ⊥) ⌝ }
-    ensures { λ a. ⌜ Did z (delivered (z .cards) (z .counters) (z .capacity) receiver sender (state-of (now (words .entry)) (now (logs .entry)))) a (now (words .exit)) (now (logs .entry)) (now (places .exit)) ⌝ }
+    requires { ⌜ StepReady z (now words) (now logs) (now places) × (receiver < z .cards) × (sender < z .cards) × (receiver ≡ sender → ⊥) ⌝ }
+    ensures { λ a. ⌜ StepDone z (delivered (z .cards) (z .counters) (z .«log_bytes») receiver sender (state-of (now (words .entry)) (now (logs .entry)))) a (now (words .exit)) (now (logs .entry)) (now (places .exit)) ⌝ }
 {
     let made = received(z, words, sender, sender);
     let had = received(z, words, receiver, sender);
     if made <= had {
-        return protocol::NONE_WAITING;
+        return protocol::NOTHING_WAITING;
     }
     let which = link(receiver, sender);
     let at = places[which];
-    let start = sender * z.capacity;
-    let end = start + z.capacity;
+    let start = sender * z.log_bytes;
+    let end = start + z.log_bytes;
     let message = next_message(&logs[start..end], at as usize);
     let from = receiver * z.replica;
     let to = from + z.replica;
@@ -145,8 +145,8 @@ fn deliver(
 
 // One step, whatever its numbers.
 fn step(z: Sizes, s: Step, words: &mut [u64], logs: &mut [u8], places: &mut [u64; 256]) -> u64
-    requires { ⌜ Given z (now words) (now logs) (now places) ⌝ }
-    ensures { λ a. ⌜ Did z (step-on (z .cards) (z .counters) (z .capacity) s (state-of (now (words .entry)) (now (logs .entry)))) a (now (words .exit)) (now (logs .exit)) (now (places .exit)) ⌝ }
+    requires { ⌜ StepReady z (now words) (now logs) (now places) ⌝ }
+    ensures { λ a. ⌜ StepDone z (step-on (z .cards) (z .counters) (z .«log_bytes») s (state-of (now (words .entry)) (now (logs .entry)))) a (now (words .exit)) (now (logs .exit)) (now (places .exit)) ⌝ }
 {
     let kind = s.kind;
     let first = s.first as usize;
@@ -155,15 +155,15 @@ fn step(z: Sizes, s: Step, words: &mut [u64], logs: &mut [u8], places: &mut [u64
         if first < z.cards {
             return make(z, kind == COUNT, first, second as u64, words, logs, places);
         }
-        return protocol::NO_SUCH_CARD;
+        return protocol::BAD_CARD;
     }
     if kind != DELIVER {
-        return protocol::NO_SUCH_STEP;
+        return protocol::BAD_KIND;
     }
     if (first < z.cards) & (second < z.cards) & (first != second) {
         return deliver(z, first, second, words, logs, places);
     }
-    protocol::NO_SUCH_CARD
+    protocol::BAD_CARD
 }
 
 // Turn i of a run: its step, and the step's answer in its place. Returns the next turn's number.
@@ -176,8 +176,8 @@ pub fn turn<'a>(
     answers: &'a mut [u64],
     places: &'a mut [u64; 256],
 ) -> usize
-    requires { ⌜ Given z (now words) (now logs) (now places) × (i < length (now answers)) ⌝ }
-    ensures { λ n. ⌜ Turned z s i (now (words .entry)) (now (logs .entry)) (now (answers .entry)) (now (words .exit)) (now (logs .exit)) (now (answers .exit)) (now (places .exit)) n ⌝ }
+    requires { ⌜ StepReady z (now words) (now logs) (now places) × (i < length (now answers)) ⌝ }
+    ensures { λ n. ⌜ StepAnswered z s i (now (words .entry)) (now (logs .entry)) (now (answers .entry)) (now (words .exit)) (now (logs .exit)) (now (answers .exit)) (now (places .exit)) n ⌝ }
 {
     answers[i] = step(z, s, words, logs, places);
     i + 1

@@ -10,7 +10,7 @@ use Rattle.protocol.specs.Chassis.{Chassis}
 use Rattle.protocol.specs.Runs.{after-run}
 use Rattle.protocol.specs.Theorem.{value-is, holders-are}
 use Rattle.protocol.specs.Refusals.{received-within}
-use Rattle.protocol.specs.Arrivals.{kept-arrivals}
+use Rattle.protocol.specs.Arrivals.{after-steps-arrivals}
 use Rattle.protocol.specs.Agreement.{same-received-agree}
 use Rattle.protocol.specs.RoundRobin.{IsLink}
 use Rattle.replica_model.specs.Layout.{N-of}
@@ -33,13 +33,13 @@ module _ (r k : ℕ) (steps : List Step) (numbers : List ℕ) (replicas : ℕ �
   unfolding ledger-reading
   same-reads i j hi hj same q hq =
       let l = ledgers-told r steps numbers q in
-      let ok = t .cards .oks q in
-      let alike = same-received-agree r q ch l ok (kept-arrivals r q _ _) i j (λ s hs. sym (N-is i s hi hs) ∙ same s hs ∙ N-is j s hj hs) in
+      let ok = t .cards .invariants q in
+      let cards-show = same-received-agree r q ch l ok (after-steps-arrivals r q _ _) i j (λ s hs. sym (N-is i s hi hs) ∙ same s hs ∙ N-is j s hj hs) in
       reading-is r k steps numbers replicas t i q hi hq
       ∙ rw (
-        sym (value-is r q ch l ok i) ∙ alike .value ∙ value-is r q ch l ok j,
-        sym (holders-are r q ch l ok i) ∙ alike .holders ∙ holders-are r q ch l ok j,
-        count-cong r (λ o. holds i o l) (λ o. holds j o l) (λ o m. alike .holding o),
+        sym (value-is r q ch l ok i) ∙ cards-show .value ∙ value-is r q ch l ok j,
+        sym (holders-are r q ch l ok i) ∙ cards-show .holders ∙ holders-are r q ch l ok j,
+        count-cong r (λ o. holds i o l) (λ o. holds j o l) (λ o m. cards-show .holding o),
       )
       (sym (reading-is r k steps numbers replicas t j q hj hq))
 
@@ -52,6 +52,6 @@ module _ (r k : ℕ) (steps : List Step) (numbers : List ℕ) (replicas : ℕ �
       (λ d.
       let a = N-is i s hi hs in
       let b = N-is s s hs hs in
-      let c = received-within r 0 ch _ (t .cards .oks 0) i s .1 in
+      let c = received-within r 0 ch _ (t .cards .invariants 0) i s .1 in
       let d = all s (hi, hs, d) in
       omega arith)

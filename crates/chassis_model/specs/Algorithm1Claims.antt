@@ -10,7 +10,7 @@ use Rattle.protocol.specs.Algorithm1.{value, slot-of}
 use Rattle.protocol.specs.InARow.{instance}
 use Rattle.replica_model.specs.Layout.{replica-length, C-of, entry-of}
 use Rattle.replica_model.specs.Calls.{sizes-in-range, read-on}
-use Rattle.chassis_model.specs.Parts.{part}
+use Rattle.chassis_model.specs.ListParts.{part}
 use Rattle.chassis_model.specs.Run.{Step, sizes-right, run-on}
 use Rattle.chassis_model.specs.Ledger.{ledger-step}
 use Rattle.chassis_model.specs.Driver.{Call, opened, numbers, cards-after, GenuineHistory, call-step}

@@ -2,9 +2,9 @@
 use Prim.Native.Nat.{ℕ}
 use mathlib.Core.List.{List, map}
 use Rattle.protocol.specs.Ledger.{Step}
-use Rattle.protocol.specs.InARow.{System, initial, kept}
+use Rattle.protocol.specs.InARow.{System, initial, after-steps}
 use Rattle.chassis_model.specs.Ledger.{was-accepted}
 
 -- Algorithm 1's replicas on a chassis of r cards, after the steps that were answered with these numbers
 unfoldable pub algorithm-1-of : ℕ → List Step → List ℕ → System
-algorithm-1-of r steps numbers = kept r steps (map was-accepted numbers) initial
+algorithm-1-of r steps numbers = after-steps r steps (map was-accepted numbers) initial

@@ -7,7 +7,7 @@ use lib.ListN.{getD, replicate}
 use Rattle.protocol.specs.Tables.{put, sum, bits}
 use Rattle.protocol.specs.Entry.{incremented, cleared}
 use Rattle.protocol.specs.Chassis.{count-message, present-entries, clear-message, read-value, read-holders}
-use Rattle.protocol.specs.Stores.{cleared-words, taken-words, shown}
+use Rattle.protocol.specs.StoreLaws.{cleared-words, taken-words, shown}
 use Rattle.wire.specs.Number.{number-at, bytes-of}
 use Rattle.wire.specs.declared.Message as wire
 use Rattle.wire.specs.Message as form
@@ -15,7 +15,7 @@ use Rattle.wire.specs.Message.{header-bytes, increment-bytes, entry-bytes, entr
 use Rattle.replica_model.specs.Layout.{fresh-words}
 use Rattle.replica_model.specs.Calls as calls
 use Rattle.replica_model.specs.Calls.{sizes-in-range, right, all-below, count-below, entry-well-formed, card-well-formed, row-well-formed, reading, read-on, sending, count-on, clear-on, content, all-entries, cards-known, increment-implausible, entry-plausible, plausible, taking, take-on}
-use Rattle.chassis_model.specs.Parts.{part, put-part}
+use Rattle.chassis_model.specs.ListParts.{part, put-part}
 use Rattle.chassis_model.specs.Log.{waiting-part, end-of}
 use Rattle.chassis_model.specs.Run as run
 use Rattle.chassis_model.specs.Run.{Step, State, replica-of, log-of, delivered, cards-right, step-on, state-after, answers-of, fresh-replicas, count-kind, clear-kind, deliver-kind}

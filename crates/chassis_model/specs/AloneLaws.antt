@@ -10,7 +10,7 @@ use lib.Dec.{eqb, ltb}
 use borrow.Author.Tests.{ltb-true, lt-ltb, le-ltb, le-leb, lt-leb, eq-eqb, ne-eqb, eqb-true}
 use Rattle.protocol.specs.Limits.{MAX}
 use Rattle.protocol.specs.Cases.{by-le, by-place, by-test, and-left}
-use Rattle.protocol.specs.Ledger.{Ledger, empty-ledger, entered, fed, holds}
+use Rattle.protocol.specs.Ledger.{Ledger, empty-ledger, after-accepted, after-step, holds}
 use Rattle.protocol.specs.Chassis.{Message, increment, clearing, Chassis, fresh-chassis, done, enabled, stepped}
 use Rattle.protocol.specs.Alone as queues
 use Rattle.protocol.specs.Alone.{Turns, no-turns, belongs-by-turns, outline, room}
@@ -36,9 +36,9 @@ use Rattle.chassis_model.specs.Steps.{step-matches}
 use Rattle.chassis_model.specs.AnswerLaws.{step-answer}
 use Rattle.chassis_model.specs.Reads.{read-matches}
 use Rattle.chassis_model.specs.TheoryReads.{same-reading}
-use Rattle.chassis_model.specs.Fresh.{fresh-matches}
+use Rattle.chassis_model.specs.FreshRun.{fresh-matches}
 use Rattle.chassis_model.specs.Theorem.{right-sizes, answers-are, words-are}
-use Rattle.chassis_model.specs.Parts.{part}
+use Rattle.chassis_model.specs.ListParts.{part}
 
 -- ---- room: "36 bytes", "28 + 20e bytes"
 
@@ -71,7 +71,7 @@ module _ (r k L : ℕ) (st : State) (ch : Chassis) (ls : ℕ → Ledger) (h : Ma
   used-is =
       let on = h .holds i hi in
       rw (own-made, ← (length-numbered i 0 (ch .log i)))
-      (free-place (wire-log i (ch .log i)) (on .rest) (log-of r k L st i) (on .bytes) (h .cards .alike .readable i hi) ∙ bytes-of-log i 0 (ch .log i))
+      (free-place (wire-log i (ch .log i)) (on .rest) (log-of r k L st i) (on .bytes) (h .cards .cards-show .readable i hi) ∙ bytes-of-log i 0 (ch .log i))
 
 room-ones : (ms : List Message) → room (λ m. 1) ms ≡ length ms
 unfolding room
@@ -133,7 +133,7 @@ module _ (r k L q : ℕ) (turns : Turns) (st : State) (ch : Chassis) (ls : ℕ �
   makes-too : (counts : Bool) (i : ℕ) → i < r → making-answer k L q (N-at r k L st i i) (free-from r k L st i) (message-size r counts i (ls q)) ≡ 0
       → making-answer k L q (N-at r k L st′ i i) (free-from r k L st′ i) (message-size r counts i (ls′ q)) ≡ 0
   makes-too counts i hi e =
-      making-fits k L q _ _ _ _ _ _ (rw (reached-N r k (replica-of r k L st) ch ls (h .cards) i i hi hi) (h .cards .alike .few i hi)) (fewer-made r k q turns (replica-of r k L st) ch ls (h .cards) (replica-of r k L st′) ch′ ls′ (h′ .cards) b i hi) (less-used i hi)
+      making-fits k L q _ _ _ _ _ _ (rw (reached-N r k (replica-of r k L st) ch ls (h .cards) i i hi hi) (h .cards .cards-show .few i hi)) (fewer-made r k q turns (replica-of r k L st) ch ls (h .cards) (replica-of r k L st′) ch′ ls′ (h′ .cards) b i hi) (less-used i hi)
       (same-size r q turns ch (ls q) ch′ (ls′ q) b counts i) e
 
   abbrev AcceptedToo : Step → Type 0
@@ -175,12 +175,12 @@ module _ (r k L : ℕ) (st : State) (ch : Chassis) (ls : ℕ → Ledger) (h : Ma
   accepted-enabled s e = rw e at (step-matches r k L st ch ls h s .1)
 
   accepted-leaves : (s : Step) → step-on r k L s st .answer ≡ 0
-      → Matches r k L (step-on r k L s st .state) (done r (ledger-step s) ch) (λ q. entered r q (ledger-step s) (ls q))
-  unfolding stepped fed
+      → Matches r k L (step-on r k L s st .state) (done r (ledger-step s) ch) (λ q. after-accepted r q (ledger-step s) (ls q))
+  unfolding stepped after-step
   accepted-leaves s e = rw (e, accepted-enabled s e) at (step-matches r k L st ch ls h s .0)
 
   declined-leaves : (s : Step) → (step-on r k L s st .answer ≡ 0 → ⊥) → Matches r k L (step-on r k L s st .state) ch ls
-  unfolding stepped fed
+  unfolding stepped after-step
   declined-leaves s d = rw (ne-eqb (step-on r k L s st .answer) 0 d) at (step-matches r k L st ch ls h s .0)
 
 -- ---- a list of steps

@@ -7,7 +7,7 @@ use mathlib.Core.List.{List}
 use lib.ListN.{length, drop}
 use lib.Dec.{ltb, eqb}
 use borrow.Author.Tests.{ltb-true}
-use Rattle.protocol.specs.Limits.{no-such-card, no-such-step}
+use Rattle.protocol.specs.Limits.{bad-card, bad-kind}
 use Rattle.protocol.specs.Cases.{by-place, by-test, and-left}
 use Rattle.protocol.specs.Tables.{put, put-at, put-other}
 use Rattle.protocol.specs.Ledger.{Ledger, empty-ledger}
@@ -15,20 +15,20 @@ use Rattle.protocol.specs.Chassis.{Chassis, fresh-chassis}
 use Rattle.wire.specs.Message.{message-at}
 use Rattle.replica_model.specs.Layout.{cards, counters, replica-length}
 use Rattle.replica_model.specs.Calls.{sizes-in-range, read-on, SendOutcome, not-sent, take-on}
-use Rattle.replica_model.specs.Terms.{Right, Isolates}
+use Rattle.replica_model.specs.ClaimTerms.{Right, Isolates}
 use Rattle.replica_model.specs.RowLaws.{row-from, sizes}
 use Rattle.replica_model.specs.Exact.{count-decided, clear-decided, take-decided}
 use Rattle.replica_model.specs.Claims.{count-performs, clear-performs, take-performs, count-isolates, clear-isolates, take-isolates}
 use Rattle.chassis_model.specs.Log.{waiting-part}
-use Rattle.chassis_model.specs.Parts.{part, put-part}
-use Rattle.chassis_model.specs.PartLaws.{put-part-same, part-put}
+use Rattle.chassis_model.specs.ListParts.{part, put-part}
+use Rattle.chassis_model.specs.ListPartsLaws.{put-part-same, part-put}
 use Rattle.chassis_model.specs.Run.{Step, State, Stepped, replica-of, log-of, N-at, free-from, made, delivered, cards-right, step-on, state-after, count-kind, clear-kind, deliver-kind}
 use Rattle.chassis_model.specs.Answers.{fresh-state}
 use Rattle.chassis_model.specs.Driver.{Call, count, clear, take, Cards, sent, called}
 use Rattle.chassis_model.specs.Alone.{step-counter, call-counter}
 use Rattle.chassis_model.specs.InStep.{InStep, reached-right, reached-row}
 use Rattle.chassis_model.specs.Matches.{Matches}
-use Rattle.chassis_model.specs.Fresh.{fresh-matches}
+use Rattle.chassis_model.specs.FreshRun.{fresh-matches}
 use Rattle.chassis_model.specs.Sends.{call-of}
 use Rattle.chassis_model.specs.Made.{made-of, declined-made}
 use Rattle.chassis_model.specs.Theorem.{run-matches}
@@ -72,14 +72,14 @@ module _ (r k : ℕ) (replicas : ℕ → List ℕ) (ch : Chassis) (ls : ℕ → 
       (λ e.
       let hj : j < r = rw (← e) hi in
       rw (put-at j b replicas i e, e)
-      (only .reads-stay q (rw (h .alike .heads j hj .counters-are) hq) (λ f. other (sym f)) (row-from (replicas j) q (reached-row r k replicas ch ls h j q hj hq))))
+      (only .reads-stay q (rw (h .cards-show .heads j hj .counters-are) hq) (λ f. other (sym f)) (row-from (replicas j) q (reached-row r k replicas ch ls h j q hj hq))))
       (λ d. rw (put-other j b replicas i d))
 
 -- ---- a run's step
 
 module _ (r k L : ℕ) (st : State) where
   step-cases : (s : Step) (P : Stepped → Type 0)
-      → P (record { answer = no-such-step; state = st }) → P (record { answer = no-such-card; state = st })
+      → P (record { answer = bad-kind; state = st }) → P (record { answer = bad-card; state = st })
       → (eqb (s .kind) deliver-kind ≡ true → s .first < r → P (delivered r k L (s .first) (s .second) st))
       → (eqb (s .kind) deliver-kind ≡ false → s .first < r → P (made r k L (s .first) (call-of (eqb (s .kind) count-kind) (s .second)) st))
       → P (step-on r k L s st)
@@ -132,7 +132,7 @@ module _ (r k L : ℕ) (st : State) where
         → Isolates (replica-of r k L st j) c b → (c ≡ q → ⊥)
         → read-on (part (replica-length r k) (put-part (replica-length r k) j b (st .words)) i) q ≡ read-on (replica-of r k L st i) q
     words-leave j c b hj fits only other =
-        let head = h .cards .alike .heads j hj in
+        let head = h .cards .cards-show .heads j hj in
         rw (part-put r (replica-length r k) j b (st .words) (h .words-fit) hj (rw (head .cards-are, head .counters-are) at fits) i)
         (reads-leave r k (replica-of r k L st) ch ls (h .cards) j c q b only other i hi hq)
 

@@ -8,13 +8,13 @@ use native.Mathlib.Omega.{arith}
 use lib.ListN.{length}
 use lib.Dec.{eqb}
 use borrow.Author.Tests.{eq-eqb, ne-eqb}
-use Rattle.protocol.specs.Limits.{no-such-step}
+use Rattle.protocol.specs.Limits.{bad-kind}
 use Rattle.protocol.specs.Cases.{by-place}
 use Rattle.protocol.specs.Ledger as ledger
 use Rattle.protocol.specs.Ledger.{Ledger}
 use Rattle.protocol.specs.Chassis.{Chassis, enabled, accepted, stepped}
 use Rattle.protocol.specs.Enabled.{deliver-enabled}
-use Rattle.protocol.specs.Theorem.{Ok}
+use Rattle.protocol.specs.Theorem.{Invariant}
 use Rattle.protocol.specs.Alone as queues
 use Rattle.protocol.specs.Alone.{Turns, turned, belongs-by-turns}
 use Rattle.protocol.specs.AloneTurns.{TurnsAre, belongs-is, stepped-turns}
@@ -38,7 +38,7 @@ use Rattle.chassis_model.specs.DriverSame.{turn-bytes}
 
 -- ---- one step that answered `number`
 
-module _ (r q : ℕ) (ch : Chassis) (l : Ledger) (ok : Ok r q ch l) (turns : Turns) (are : TurnsAre turns ch) (s : ledger.Step) (number : ℕ)
+module _ (r q : ℕ) (ch : Chassis) (l : Ledger) (ok : Invariant r q ch l) (turns : Turns) (are : TurnsAre turns ch) (s : ledger.Step) (number : ℕ)
     (same : accepted r (offer s number) ch ≡ was-accepted number) where
   on-accepted : number ≡ 0 → enabled r s ch ≡ true
   on-accepted e = rw e at same
@@ -84,7 +84,7 @@ module _ (r k L : ℕ) (st : State) (ch : Chassis) (ls : ℕ → Ledger) (h : Ma
   none-counter : (s : Step) → (s .kind ≡ count-kind → ⊥) → (s .kind ≡ clear-kind → ⊥) → (s .kind ≡ deliver-kind → ⊥) → SameCounter s
   unfolding step-on
   none-counter s x y z e on =
-      let twelve : no-such-step ≡ 0 = rw (ne-eqb (s .kind) count-kind x, ne-eqb (s .kind) clear-kind y, ne-eqb (s .kind) deliver-kind z) at e in absurd (omega arith)
+      let twelve : bad-kind ≡ 0 = rw (ne-eqb (s .kind) count-kind x, ne-eqb (s .kind) clear-kind y, ne-eqb (s .kind) deliver-kind z) at e in absurd (omega arith)
 
   pub counter-is : (s : Step) → SameCounter s
   counter-is s = by-kind SameCounter count-counter clear-counter deliver-counter none-counter s
@@ -100,8 +100,8 @@ own-steps-are r k L q [] st ch ls h turns are = refl
 own-steps-are r k L q (s ∷ ss) st ch ls h turns are =
     let here = step-matches r k L st ch ls h s in
     ap₂ (λ (t : Bool) (rest : List Step). cond t (s ∷ []) [] ++ rest)
-    (picked r q ch (ls q) (h .cards .oks q) turns are (ledger-step s) (step-on r k L s st .answer) (here .1) (step-counter r k L s st) (counter-is r k L st ch ls h s))
-    (own-steps-are r k L q ss _ _ _ (here .0) _ (next-turns r q ch (ls q) (h .cards .oks q) turns are (ledger-step s) (step-on r k L s st .answer) (here .1)))
+    (picked r q ch (ls q) (h .cards .invariants q) turns are (ledger-step s) (step-on r k L s st .answer) (here .1) (step-counter r k L s st) (counter-is r k L st ch ls h s))
+    (own-steps-are r k L q ss _ _ _ (here .0) _ (next-turns r q ch (ls q) (h .cards .invariants q) turns are (ledger-step s) (step-on r k L s st .answer) (here .1)))
 
 -- ---- a driver's history
 
@@ -132,5 +132,5 @@ own-calls-are r k q [] st ch ls h g turns are = refl
 own-calls-are r k q (c ∷ cs) st ch ls h (g, gs) turns are =
     let here = call-matches r k st ch ls h c g in
     ap₂ (λ (t : Bool) (rest : List Call). cond t (c ∷ []) [] ++ rest)
-    (picked r q ch (ls q) (h .cards .oks q) turns are (call-step c) (number-of c st) (here .1) (call-counter c) (call-counter-is r k st ch ls h c g))
-    (own-calls-are r k q cs _ _ _ (here .0) gs _ (next-turns r q ch (ls q) (h .cards .oks q) turns are (call-step c) (number-of c st) (here .1)))
+    (picked r q ch (ls q) (h .cards .invariants q) turns are (call-step c) (number-of c st) (here .1) (call-counter c) (call-counter-is r k st ch ls h c g))
+    (own-calls-are r k q cs _ _ _ (here .0) gs _ (next-turns r q ch (ls q) (h .cards .invariants q) turns are (call-step c) (number-of c st) (here .1)))

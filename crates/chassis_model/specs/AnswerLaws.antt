@@ -7,12 +7,12 @@ use native.Mathlib.Omega.{arith}
 use lib.ListN.{length, getD, drop, length-drop}
 use lib.Dec.{leb, ltb, eqb}
 use borrow.Author.Tests.{lt-ltb, le-ltb, le-leb, lt-leb, eq-eqb, ne-eqb}
-use Rattle.protocol.specs.Limits.{MAX, no-such-card, no-such-step, no-such-counter, no-more-messages, none-waiting, log-too-short}
+use Rattle.protocol.specs.Limits.{MAX, bad-card, bad-kind, bad-counter, exhausted, nothing-waiting, log-full}
 use Rattle.protocol.specs.Cases.{by-le, by-place}
 use Rattle.protocol.specs.Ledger.{Ledger, link-waits}
 use Rattle.protocol.specs.Chassis.{Chassis}
 use Rattle.protocol.specs.Links.{link-waits-is}
-use Rattle.chassis_model.specs.PartLaws.{part-length}
+use Rattle.chassis_model.specs.ListPartsLaws.{part-length}
 use Rattle.chassis_model.specs.Run.{Step, State, replica-of, log-of, N-at, free-from, made, delivered, cards-right, step-on, state-after, answers-of, count-kind, clear-kind, deliver-kind}
 use Rattle.chassis_model.specs.Answers.{message-size, making-answer, due-answer, run-answer}
 use Rattle.chassis_model.specs.InStep.{reached-N}
@@ -49,21 +49,21 @@ module _ (r k L : ℕ) (st : State) (ch : Chassis) (ls : ℕ → Ledger) (h : Ma
 
   -- ---- deliver
 
-  link-answer : (any i s : ℕ) → i < r → s < r → (i ≡ s → ⊥) → delivered r k L i s st .answer ≡ cond (link-waits i s (ls any)) 0 none-waiting
+  link-answer : (any i s : ℕ) → i < r → s < r → (i ≡ s → ⊥) → delivered r k L i s st .answer ≡ cond (link-waits i s (ls any)) 0 nothing-waiting
   link-answer any i s hi hs apart =
       let here = reached-N r k (replica-of r k L st) ch ls (h .cards) i s hi hs in
       let there = reached-N r k (replica-of r k L st) ch ls (h .cards) s s hs hs in
       by-le (suc (N-at r k L st i s)) (N-at r k L st s s)
       (λ waits. rw (
         one-delivered r k L st ch ls h i s hi hs waits apart,
-        link-waits-is r any ch (ls any) (h .cards .oks any) i s apart,
+        link-waits-is r any ch (ls any) (h .cards .invariants any) i s apart,
         lt-ltb (ch .replica i .N s) (ch .replica s .N s) (rw (here, there) at waits),
       ))
       (λ none.
       let none′ : N-at r k L st s s ≤ N-at r k L st i s = omega arith in
       rw (
         none-delivered r k L st ch ls h i s hi hs none′,
-        link-waits-is r any ch (ls any) (h .cards .oks any) i s apart,
+        link-waits-is r any ch (ls any) (h .cards .invariants any) i s apart,
         le-ltb (ch .replica i .N s) (ch .replica s .N s) (rw (here, there) at none′),
       ))
 
@@ -114,14 +114,14 @@ either-answer false a b x y = y
 making-is-answer : (k L counter made used size : ℕ) → run-answer (making-answer k L counter made used size) ≡ true
 unfolding making-answer
 making-is-answer k L counter made used size =
-    either-answer (ltb counter k) _ no-such-counter
-    (either-answer (not (eqb made MAX)) _ no-more-messages (either-answer (leb (used + size) L) 0 log-too-short refl refl) refl) refl
+    either-answer (ltb counter k) _ bad-counter
+    (either-answer (not (eqb made MAX)) _ exhausted (either-answer (leb (used + size) L) 0 log-full refl refl) refl) refl
 
 pub due-is-answer : (r k L any : ℕ) (s : Step) (st : State) (ls : ℕ → Ledger) → run-answer (due-answer r k L any s st ls) ≡ true
 unfolding due-answer
 due-is-answer r k L any s st ls =
-    either-answer (eqb (s .kind) count-kind || eqb (s .kind) clear-kind || eqb (s .kind) deliver-kind) _ no-such-step
-    (either-answer (cards-right r k L s) _ no-such-card
+    either-answer (eqb (s .kind) count-kind || eqb (s .kind) clear-kind || eqb (s .kind) deliver-kind) _ bad-kind
+    (either-answer (cards-right r k L s) _ bad-card
     (either-answer (eqb (s .kind) deliver-kind) _ _
-    (either-answer (link-waits (s .first) (s .second) (ls any)) 0 none-waiting refl refl)
+    (either-answer (link-waits (s .first) (s .second) (ls any)) 0 nothing-waiting refl refl)
     (making-is-answer k L (s .second) _ _ _)) refl) refl

@@ -8,7 +8,7 @@ use lib.ListN.{length}
 use Rattle.protocol.specs.History.{caught-up, plain-value}
 use Rattle.replica_model.specs.Layout.{replica-length}
 use Rattle.replica_model.specs.Calls.{sizes-in-range, read-on}
-use Rattle.chassis_model.specs.Parts.{part}
+use Rattle.chassis_model.specs.ListParts.{part}
 use Rattle.chassis_model.specs.Run.{Step, sizes-right, run-on}
 use Rattle.chassis_model.specs.Ledger.{ledger-step}
 use Rattle.chassis_model.specs.Driver.{Call, opened, numbers, cards-after, GenuineHistory, call-step}

@@ -8,11 +8,11 @@ use mathlib.Core.Logic.{_↔_}
 use mathlib.Core.Bool.{true}
 use mathlib.Core.List.{List, _∷_, _++_}
 use lib.ListN.{length, getD}
-use Rattle.protocol.specs.Limits.{wrong-sizes}
+use Rattle.protocol.specs.Limits.{bad-sizes}
 use Rattle.wire.specs.NumberLaws.{Bytes}
 use Rattle.replica_model.specs.Layout.{replica-length, N-of}
 use Rattle.replica_model.specs.Calls.{read-on}
-use Rattle.chassis_model.specs.Parts.{part}
+use Rattle.chassis_model.specs.ListParts.{part}
 use Rattle.chassis_model.specs.Run.{Step, state-after, answers-of, sizes-right, run-on, steps-bytes, AllFit, steps-of, run-bytes-on}
 use Rattle.chassis_model.specs.Ledger.{ledger-of, ledger-reading}
 use Rattle.chassis_model.specs.Answers.{fresh-state, due-answer, run-answer}
@@ -54,14 +54,14 @@ same-messages-same-reads = theorem.same-messages-same-reads
 pub accepted-sizes : (r k L : ℕ) (steps : List Step) (words logs answers : List ℕ)
     → let after = run-on r k L steps words logs answers in
     ((after .number ≡ 0) ↔ (sizes-right r k L (length steps) words logs answers ≡ true))
-    × ((after .number ≡ 0 → ⊥) → after ≡ record { number = wrong-sizes; words = words; logs = logs; answers = answers })
+    × ((after .number ≡ 0 → ⊥) → after ≡ record { number = bad-sizes; words = words; logs = logs; answers = answers })
 accepted-sizes = run-laws.accepted-sizes
 
 -- A run over bytes answers 0 exactly when, besides, the bytes are a multiple of 12. Otherwise it answers 11, and words, logs and answers are as they were.
 pub accepted-sizes-over-bytes : (r k L : ℕ) (bytes words logs answers : List ℕ)
     → let after = run-bytes-on r k L bytes words logs answers in
     ((after .number ≡ 0) ↔ ((length bytes % 12 ≡ 0) × (sizes-right r k L (length bytes / 12) words logs answers ≡ true)))
-    × ((after .number ≡ 0 → ⊥) → after ≡ record { number = wrong-sizes; words = words; logs = logs; answers = answers })
+    × ((after .number ≡ 0 → ⊥) → after ≡ record { number = bad-sizes; words = words; logs = logs; answers = answers })
 accepted-sizes-over-bytes = run-laws.accepted-sizes-over-bytes
 
 -- EXACT ANSWERS. The answer of the step behind any first steps is the one that is due after them (`due-answer`): 12, 7, 3, 4, 14 and 13 exactly for their causes, and 0

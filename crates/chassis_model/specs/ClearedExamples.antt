@@ -11,9 +11,9 @@ use Rattle.protocol.specs.Tables.{put, sum}
 use Rattle.protocol.specs.Entry.{incremented, cleared}
 use Rattle.protocol.specs.Names.{name, has, insert, join, names-after, any, latest, beyond}
 use Rattle.protocol.specs.Ledger as ledger
-use Rattle.protocol.specs.Ledger.{applied, made, next-item, rest-items, handed, count-item, holds, clear-names, entered, fed, kept}
+use Rattle.protocol.specs.Ledger.{applied, made, next-item, rest-items, handed, count-item, holds, clear-names, after-accepted, after-step, after-steps}
 use Rattle.protocol.specs.Chassis.{count-message, present-entries, clear-message, read-value}
-use Rattle.protocol.specs.Stores.{cleared-words, taken-words, shown}
+use Rattle.protocol.specs.StoreLaws.{cleared-words, taken-words, shown}
 use Rattle.wire.specs.Number.{number-at, bytes-of}
 use Rattle.wire.specs.Message as form
 use Rattle.wire.specs.Message.{header-bytes, increment-bytes, entry-bytes, entries-bytes, clear-bytes, message-bytes, header-in-range, increment-in-range, clear-in-range, entry-in-range, entries-in-range, unused, in-range, increment-message, entries-at, called-length, message-at, reads}
@@ -54,7 +54,7 @@ pub unseen-stays :
     × (value-read exchanged 0 ≡ 1) × (value-read exchanged 1 ≡ 1)
     -- and the first was cleared by a card that had received it
     × ClearedBySeer 2 1 0 exchanged (name 0 1)
-unfolding put sum incremented cleared has insert join names-after latest applied ledger.sent made next-item handed count-item entered fed kept count-message present-entries clear-message read-value cleared-words taken-words shown number-at bytes-of header-bytes increment-bytes entry-bytes entries-bytes clear-bytes message-bytes header-in-range increment-in-range clear-in-range entry-in-range entries-in-range unused in-range increment-message entries-at called-length message-at reads form.clear-message fresh-words sizes-in-range right all-below entry-well-formed card-well-formed row-well-formed reading read-on calls.sent sending count-on clear-on content all-entries cards-known increment-implausible entry-plausible plausible taking take-on wrote sent called number-of after numbers
+unfolding put sum incremented cleared has insert join names-after latest applied ledger.sent made next-item handed count-item after-accepted after-step after-steps count-message present-entries clear-message read-value cleared-words taken-words shown number-at bytes-of header-bytes increment-bytes entry-bytes entries-bytes clear-bytes message-bytes header-in-range increment-in-range clear-in-range entry-in-range entries-in-range unused in-range increment-message entries-at called-length message-at reads form.clear-message fresh-words sizes-in-range right all-below entry-well-formed card-well-formed row-well-formed reading read-on calls.sent sending count-on clear-on content all-entries cards-known increment-implausible entry-plausible plausible taking take-on wrote sent called number-of after numbers
 unseen-stays = (
   refl,
   refl,
@@ -76,7 +76,7 @@ unseen-stays = (
 
 -- the second is cancelled on no card
 nowhere : (i : ℕ) → has (history-ledger 2 1 exchanged 0 .cancelled i) (name 0 2) ≡ false
-unfolding put incremented cleared has insert join names-after any latest beyond applied ledger.sent made next-item rest-items handed count-item holds clear-names entered fed kept count-message present-entries clear-message cleared-words taken-words shown number-at bytes-of header-bytes entry-bytes entries-bytes clear-bytes message-bytes header-in-range increment-in-range clear-in-range entry-in-range entries-in-range unused in-range increment-message entries-at called-length message-at reads form.clear-message fresh-words sizes-in-range right all-below entry-well-formed card-well-formed row-well-formed calls.sent sending count-on clear-on content all-entries cards-known increment-implausible entry-plausible plausible taking take-on wrote sent called number-of after numbers
+unfolding put incremented cleared has insert join names-after any latest beyond applied ledger.sent made next-item rest-items handed count-item holds clear-names after-accepted after-step after-steps count-message present-entries clear-message cleared-words taken-words shown number-at bytes-of header-bytes entry-bytes entries-bytes clear-bytes message-bytes header-in-range increment-in-range clear-in-range entry-in-range entries-in-range unused in-range increment-message entries-at called-length message-at reads form.clear-message fresh-words sizes-in-range right all-below entry-well-formed card-well-formed row-well-formed calls.sent sending count-on clear-on content all-entries cards-known increment-implausible entry-plausible plausible taking take-on wrote sent called number-of after numbers
 nowhere zero = refl
 nowhere (suc zero) = refl
 nowhere (suc (suc i)) = rw (ne-eqb (suc (suc i)) 0 (λ e. omega arith), ne-eqb (suc (suc i)) 1 (λ e. omega arith))

@@ -7,15 +7,15 @@ use mathlib.Core.List.{List, [], _∷_, _++_, map, nil≢cons, head-eq-of-cons-e
 use lib.ListN.{length}
 use lib.Dec.{ltb}
 use borrow.Author.Tests.{ltb-true, eqb-true, ne-eqb}
-use Rattle.protocol.specs.Limits.{wrong-replica}
+use Rattle.protocol.specs.Limits.{bad-replica}
 use Rattle.protocol.specs.Cases.{and-left, or-right}
 use Rattle.protocol.specs.Names.{Name, has}
 use Rattle.protocol.specs.Ledger as ledger
-use Rattle.protocol.specs.Ledger.{Ledger, empty-ledger, entered, fed, kept}
+use Rattle.protocol.specs.Ledger.{Ledger, empty-ledger, after-accepted, after-step, after-steps}
 use Rattle.protocol.specs.Chassis.{Chassis, Offer}
 use Rattle.protocol.specs.Runs.{step-of, ledger-after}
-use Rattle.protocol.specs.Steps.{Ok}
-use Rattle.protocol.specs.LedgerLaws.{kept-grows}
+use Rattle.protocol.specs.InvariantSteps.{Invariant}
+use Rattle.protocol.specs.LedgerLaws.{after-steps-grows}
 use Rattle.protocol.specs.NewNames.{value-gains}
 use Rattle.protocol.specs.ClearedLaws.{was-cleared, clear-cancelled, clear-value}
 use Rattle.replica_model.specs.declared.Reading.{Reading}
@@ -35,13 +35,13 @@ use Rattle.chassis_model.specs.DriverSteps.{ledgers-after, history-offer
 use Rattle.chassis_model.specs.DriverTheorem.{went, theory-history, driver-theorem, call-numbers}
 
 -- what a card had received that clears is cancelled there, whatever the ledger is fed then
-stays-cleared : (r q i : ℕ) (ch : Chassis) (l : Ledger) → Ok r q ch l → (n : Name) → has (l .received i) n ≡ true
+stays-cleared : (r q i : ℕ) (ch : Chassis) (l : Ledger) → Invariant r q ch l → (n : Name) → has (l .received i) n ≡ true
     → (s : ledger.Step) (a : Bool) → s ≡ ledger.clear i q → a ≡ true → (ss : List ledger.Step) (flags : List Bool)
-    → has (kept r q (s ∷ ss) (a ∷ flags) l .cancelled i) n ≡ true
-unfolding kept fed
+    → has (after-steps r q (s ∷ ss) (a ∷ flags) l .cancelled i) n ≡ true
+unfolding after-steps after-step
 stays-cleared r q i ch l ok n had s a clears on ss flags =
     rw (clears, on)
-    (kept-grows r q ss flags (entered r q (ledger.clear i q) l) .cancelled i n
+    (after-steps-grows r q ss flags (after-accepted r q (ledger.clear i q) l) .cancelled i n
     (clear-cancelled r q ch l ok i n ∙ or-right (has (l .cancelled i) n) (has (l .received i) n) had))
 
 -- ---- a driver's calls
@@ -75,17 +75,17 @@ genuine-first (c ∷ calls) more st (g, gs) = (g, genuine-first calls more (call
 -- a ledger that is told of more calls
 ledgers-append : (r q : ℕ) (calls more : List Call) (st : Cards) (ls : ℕ → Ledger)
     → ledgers-after r (calls ++ more) st ls q ≡ ledgers-after r more (after calls st) (ledgers-after r calls st ls) q
-unfolding numbers after kept
+unfolding numbers after after-steps
 ledgers-append r q [] more st ls = refl
-ledgers-append r q (c ∷ calls) more st ls = ledgers-append r q calls more (called c st) (λ p. fed r p (call-step c) (was-accepted (number-of c st)) (ls p))
+ledgers-append r q (c ∷ calls) more st ls = ledgers-append r q calls more (called c st) (λ p. after-step r p (call-step c) (was-accepted (number-of c st)) (ls p))
 
 pub cancelled-stays : (r k q i : ℕ) (calls more : List Call) (n : Name) → has (history-ledger r k calls q .cancelled i) n ≡ true
     → has (history-ledger r k (calls ++ more) q .cancelled i) n ≡ true
 cancelled-stays r k q i calls more n h =
-    rw (ledgers-append r q calls more (opened r k) (λ p. empty-ledger)) (kept-grows r q _ _ _ .cancelled i n h)
+    rw (ledgers-append r q calls more (opened r k) (λ p. empty-ledger)) (after-steps-grows r q _ _ _ .cancelled i n h)
 
 -- a count or a clear that was accepted names a card and a counter that are there
-sends-there : (r k i q N size : ℕ) (out : List ℕ) → check (ltb i r) wrong-replica (send-number k q N size out) ≡ 0 → (i < r) × (q < k)
+sends-there : (r k i q N size : ℕ) (out : List ℕ) → check (ltb i r) bad-replica (send-number k q N size out) ≡ 0 → (i < r) × (q < k)
 unfolding send-number
 sends-there r k i q N size out e =
     let a = passed (ltb i r) _ 0 e in
@@ -95,7 +95,7 @@ sends-there r k i q N size out e =
 module _ (r k : ℕ) (right : sizes-in-range r k ≡ true) where
   history-told : (calls : List Call) → GenuineHistory r k calls → (q : ℕ)
       → history-ledger r k calls q ≡ ledger-after r q (history-offers calls (opened r k))
-  history-told calls g q = told r k _ _ _ (theory-history r k right calls g) (λ ss fs. kept r q ss fs empty-ledger)
+  history-told calls g q = told r k _ _ _ (theory-history r k right calls g) (λ ss fs. after-steps r q ss fs empty-ledger)
 
   pub cancelled-was-cleared : (calls : List Call) → GenuineHistory r k calls
       → (i q : ℕ) (n : Name) → has (history-ledger r k calls q .cancelled i) n ≡ true → ClearedBySeer r k q calls n
@@ -123,12 +123,12 @@ module _ (r k : ℕ) (right : sizes-in-range r k ≡ true) where
   cleared-is-cancelled calls g q n w =
       let before = theory-history r k right (w .before) (genuine-first (w .before) _ (opened r k) (rw (w .in-list) at g)) in
       rw (w .in-list, ledgers-append r q (w .before) (clear (w .card) q (w .out) ∷ w .later) (opened r k) (λ p. empty-ledger))
-      (stays-cleared r q (w .card) _ _ (before .cards .oks q) n (w .had-received) _ _ refl (ap was-accepted (w .was-accepted)) _ _)
+      (stays-cleared r q (w .card) _ _ (before .cards .invariants q) n (w .had-received) _ _ refl (ap was-accepted (w .was-accepted)) _ _)
 
   -- what the card of an accepted call reads
   accepted-reading : (calls : List Call) (g : GenuineHistory r k calls) (c : Call) → GenuineCall c (cards-after r k calls)
       → number-of c (cards-after r k calls) ≡ 0 → (i q : ℕ) → i < r → q < k
-      → read-on (called c (cards-after r k calls) .words i) q ≡ ledger-reading r i (entered r q (call-step c) (history-ledger r k calls q))
+      → read-on (called c (cards-after r k calls) .words i) q ≡ ledger-reading r i (after-accepted r q (call-step c) (history-ledger r k calls q))
   accepted-reading calls g c gc ok i q hi hq =
       read-matches r k _ _ _ (accepted-leaves r k _ _ _ (went r k right calls g .0) c gc ok .cards) i q hi hq
 
@@ -142,7 +142,7 @@ module _ (r k : ℕ) (right : sizes-in-range r k ≡ true) where
       let there = sends-there r k i q _ _ out (sym (call-numbers r k right calls g (clear i q out) tt) ∙ ok) in
       let now = accepted-reading calls g (clear i q out) tt ok i q (there .0) (there .1) in (
         ap (λ (a : Reading). a .number) now,
-        ap (λ (a : Reading). a .value) now ∙ clear-value r q _ (history-ledger r k calls q) (went r k right calls g .0 .cards .oks q) i,
+        ap (λ (a : Reading). a .value) now ∙ clear-value r q _ (history-ledger r k calls q) (went r k right calls g .0 .cards .invariants q) i,
       )
 
   pub after-count : (calls : List Call) → GenuineHistory r k calls
@@ -166,17 +166,17 @@ module _ (r k : ℕ) (right : sizes-in-range r k ≡ true) where
 -- a ledger that is told of more steps
 run-ledgers-append : (r k L q : ℕ) (steps more : List Step) (st : State) (ls : ℕ → Ledger)
     → run.ledgers-after r k L (steps ++ more) st ls q ≡ run.ledgers-after r k L more (state-after r k L steps st) (run.ledgers-after r k L steps st ls) q
-unfolding answers-of state-after kept
+unfolding answers-of state-after after-steps
 run-ledgers-append r k L q [] more st ls = refl
 run-ledgers-append r k L q (s ∷ steps) more st ls =
-    run-ledgers-append r k L q steps more (step-on r k L s st .state) (λ p. fed r p (ledger-step s) (was-accepted (step-on r k L s st .answer)) (ls p))
+    run-ledgers-append r k L q steps more (step-on r k L s st .state) (λ p. after-step r p (ledger-step s) (was-accepted (step-on r k L s st .answer)) (ls p))
 
 pub run-cancelled-stays : (r k L q i : ℕ) (steps more : List Step) (logs : List ℕ) (n : Name)
     → has (ledger-of r q steps (answers-of r k L steps (fresh-state r k L logs)) .cancelled i) n ≡ true
     → has (ledger-of r q (steps ++ more) (answers-of r k L (steps ++ more) (fresh-state r k L logs)) .cancelled i) n ≡ true
 unfolding ledger-of
 run-cancelled-stays r k L q i steps more logs n h =
-    rw (run-ledgers-append r k L q steps more (fresh-state r k L logs) (λ p. empty-ledger)) (kept-grows r q _ _ _ .cancelled i n h)
+    rw (run-ledgers-append r k L q steps more (fresh-state r k L logs) (λ p. empty-ledger)) (after-steps-grows r q _ _ _ .cancelled i n h)
 
 -- an offer of the steps is a step behind the first ones
 step-at : {P : Type 0} (r k L : ℕ) (steps : List Step) (st : State) (before : List Offer) (o : Offer) (later : List Offer)
@@ -215,7 +215,7 @@ module _ (r k L : ℕ) (steps : List Step) (words logs answers : List ℕ) (righ
 
   run-told : (first : List Step) (q : ℕ) → ledger-of r q first (answers-of r k L first begins) ≡ ledger-after r q (run-offers r k L first begins)
   unfolding ledger-of
-  run-told first q = told r k _ _ _ (ran first) (λ ss fs. kept r q ss fs empty-ledger)
+  run-told first q = told r k _ _ _ (ran first) (λ ss fs. after-steps r q ss fs empty-ledger)
 
   pub run-cancelled-was-cleared : (i q : ℕ) (n : Name) → has (ledger-of r q steps (run-on r k L steps words logs answers .answers) .cancelled i) n ≡ true
       → ClearStepBySeer r k L q steps logs n
@@ -241,4 +241,4 @@ module _ (r k L : ℕ) (steps : List Step) (words logs answers : List ℕ) (righ
   run-cleared-is-cancelled q n w =
       let clears : ledger-step (w .step) ≡ ledger.clear (w .step .first) q = rw (w .kind-is, w .counter-is) in
       rw (answers-are r k L steps words logs answers right, w .in-list, run-ledgers-append r k L q (w .before) (w .step ∷ w .later) begins (λ p. empty-ledger))
-      (stays-cleared r q (w .step .first) _ _ (ran (w .before) .cards .oks q) n (w .had-received) _ _ clears (ap was-accepted (w .was-accepted)) _ _)
+      (stays-cleared r q (w .step .first) _ _ (ran (w .before) .cards .invariants q) n (w .had-received) _ _ clears (ap was-accepted (w .was-accepted)) _ _)

@@ -4,21 +4,21 @@ use mathlib.Core.Path.{_≡_}
 use native.Mathlib.Omega.{arith}
 use lib.ListN.{length}
 use borrow.Author.Tests.{lt-ltb, le-ltb}
-use Rattle.protocol.specs.Limits.{none-waiting}
+use Rattle.protocol.specs.Limits.{nothing-waiting}
 use Rattle.protocol.specs.Tables.{put, put-same}
 use Rattle.protocol.specs.Ledger.{Ledger}
 use Rattle.protocol.specs.Chassis as protocol
 use Rattle.protocol.specs.Chassis.{Message, Chassis}
 use Rattle.replica_model.specs.Layout.{replica-length}
 use Rattle.replica_model.specs.Calls.{on-wire}
-use Rattle.chassis_model.specs.Parts.{put-part}
-use Rattle.chassis_model.specs.PartLaws.{part-put, put-part-length}
+use Rattle.chassis_model.specs.ListParts.{put-part}
+use Rattle.chassis_model.specs.ListPartsLaws.{part-put, put-part-length}
 use Rattle.chassis_model.specs.Run.{State, replica-of, log-of, N-at, delivered}
 use Rattle.chassis_model.specs.LogLaws.{Stands, stands-in-log}
 use Rattle.chassis_model.specs.Numbered.{wire-log, wire-log-at, length-numbered}
-use Rattle.chassis_model.specs.InStep.{Alike, reached-N, made-all}
+use Rattle.chassis_model.specs.InStep.{CardsShow, reached-N, made-all}
 use Rattle.chassis_model.specs.Matches.{Holds, Matches}
-use Rattle.chassis_model.specs.Moves.{words-after, alike-same}
+use Rattle.chassis_model.specs.Moves.{words-after, cards-show-same}
 use Rattle.chassis_model.specs.Takes.{turn, turn-taken, delivered-here}
 
 -- the state with card s's message m taken by card i
@@ -26,7 +26,7 @@ abbrev pub state-delivered : ℕ → ℕ → ℕ → State → ℕ → ℕ → M
 state-delivered r k L st i s m = record { words = put-part (replica-length r k) i (words-after s m (replica-of r k L st i)) (st .words); logs = st .logs }
 
 module _ (r k L : ℕ) (st : State) (ch : Chassis) (ls : ℕ → Ledger) (h : Matches r k L st ch ls) (i s : ℕ) (hi : i < r) (hs : s < r) where
-  pub none-delivered : N-at r k L st s s ≤ N-at r k L st i s → delivered r k L i s st ≡ record { answer = none-waiting; state = st }
+  pub none-delivered : N-at r k L st s s ≤ N-at r k L st i s → delivered r k L i s st ≡ record { answer = nothing-waiting; state = st }
   unfolding delivered
   none-delivered none = rw (le-ltb (N-at r k L st i s) (N-at r k L st s s) none)
 
@@ -44,7 +44,7 @@ module _ (r k L : ℕ) (st : State) (ch : Chassis) (ls : ℕ → Ledger) (h : Ma
     turn-stands =
         let on = h .holds s hs in
         rw (reached-N r k (replica-of r k L st) ch ls (h .cards) i s hi hs, ← (wire-log-at s (ch .log s) (ch .replica i .N s) waits-in-log))
-        (stands-in-log (wire-log s (ch .log s)) (on .rest) (log-of r k L st s) (on .bytes) (h .cards .alike .readable s hs) (ch .replica i .N s)
+        (stands-in-log (wire-log s (ch .log s)) (on .rest) (log-of r k L st s) (on .bytes) (h .cards .cards-show .readable s hs) (ch .replica i .N s)
         (rw (length-numbered s 0 (ch .log s)) waits-in-log))
 
     module _ (apart : i ≡ s → ⊥) where
@@ -53,7 +53,7 @@ module _ (r k L : ℕ) (st : State) (ch : Chassis) (ls : ℕ → Ledger) (h : Ma
       one-delivered =
           rw (lt-ltb (N-at r k L st i s) (N-at r k L st s s) waits, turn-stands .waits, turn-taken r k (replica-of r k L st) ch ls (h .cards) i s hi hs apart waits-in-log)
 
-      taken-here : Alike r k (put i (words-after s (turn ch i s) (replica-of r k L st i)) (replica-of r k L st)) (protocol.delivered i s ch)
+      taken-here : CardsShow r k (put i (words-after s (turn ch i s) (replica-of r k L st i)) (replica-of r k L st)) (protocol.delivered i s ch)
       taken-here = delivered-here r k (replica-of r k L st) ch ls (h .cards) i s hi hs apart waits-in-log
 
       taken-length : length (words-after s (turn ch i s) (replica-of r k L st i)) ≡ replica-length r k
@@ -63,9 +63,9 @@ module _ (r k L : ℕ) (st : State) (ch : Chassis) (ls : ℕ → Ledger) (h : Ma
       pub delivered-fits : length (state-delivered r k L st i s (turn ch i s) .words) ≡ r * replica-length r k
       delivered-fits = put-part-length r (replica-length r k) i (words-after s (turn ch i s) (replica-of r k L st i)) (st .words) (h .words-fit) hi taken-length
 
-      pub delivered-is-alike : Alike r k (replica-of r k L (state-delivered r k L st i s (turn ch i s))) (protocol.delivered i s ch)
-      delivered-is-alike =
-          alike-same r k (put i (words-after s (turn ch i s) (replica-of r k L st i)) (replica-of r k L st)) (replica-of r k L (state-delivered r k L st i s (turn ch i s)))
+      pub delivered-shows : CardsShow r k (replica-of r k L (state-delivered r k L st i s (turn ch i s))) (protocol.delivered i s ch)
+      delivered-shows =
+          cards-show-same r k (put i (words-after s (turn ch i s) (replica-of r k L st i)) (replica-of r k L st)) (replica-of r k L (state-delivered r k L st i s (turn ch i s)))
           (protocol.delivered i s ch)
           (λ j l. part-put r (replica-length r k) i (words-after s (turn ch i s) (replica-of r k L st i)) (st .words) (h .words-fit) hi taken-length j)
           taken-here

@@ -11,7 +11,7 @@ use borrow.Author.Tests.{lt-ltb, le-ltb, eq-eqb, ne-eqb, eqb-true}
 use Rattle.protocol.specs.Limits.{MAX}
 use Rattle.protocol.specs.Cases.{by-le, by-place, by-test}
 use Rattle.protocol.specs.Ledger as ledger
-use Rattle.protocol.specs.Ledger.{Ledger, empty-ledger, entered}
+use Rattle.protocol.specs.Ledger.{Ledger, empty-ledger, after-accepted}
 use Rattle.protocol.specs.Chassis.{Chassis, fresh-chassis, done}
 use Rattle.protocol.specs.Enabled.{deliver-enabled}
 use Rattle.protocol.specs.Alone as queues
@@ -57,7 +57,7 @@ module _ (r k q : ℕ) (turns : Turns) (st : Cards) (ch : Chassis) (ls : ℕ →
   sends-too : (counts : Bool) (i : ℕ) (out : List ℕ) → i < r → send-number k q (N-of r (st .words i) i) (message-size r counts i (ls q)) out ≡ 0
       → send-number k q (N-of r (st′ .words i) i) (message-size r counts i (ls′ q)) out ≡ 0
   sends-too counts i out hi e =
-      sending-fits k q _ _ _ _ out (rw (reached-N r k (st .words) ch ls (m .cards) i i hi hi) (m .cards .alike .few i hi))
+      sending-fits k q _ _ _ _ out (rw (reached-N r k (st .words) ch ls (m .cards) i i hi hi) (m .cards .cards-show .few i hi))
       (fewer-made r k q turns (st .words) ch ls (m .cards) (st′ .words) ch′ ls′ (m′ .cards) b i hi) (same-size r q turns ch (ls q) ch′ (ls′ q) b counts i) e
 
   count-again : (i c : ℕ) (out : List ℕ) → number-of (count i c out) st ≡ 0 → c ≡ q → number-of (count i c out) st′ ≡ 0
@@ -156,7 +156,7 @@ module _ (r k q : ℕ) where
       (λ e. by-test (belongs-by-turns q (call-step c) turns)
       (λ own.
       let a = again-accepted r k q turns st ch ls m st′ ch′ ls′ m′ b c g e own in
-      let next : DriverMatches r k (called (again r c st′) st′) (done r (call-step c) ch′) (λ q. entered r q (call-step c) (ls′ q))
+      let next : DriverMatches r k (called (again r c st′) st′) (done r (call-step c) ch′) (λ q. after-accepted r q (call-step c) (ls′ q))
       = rw (a .step) at (accepted-leaves r k st′ ch′ ls′ m′ (again r c st′) (a .genuine) (a .number)) in
       rw (eq-eqb (number-of c st) 0 e, own)
       (both-more r k q c cs _ st st′ a

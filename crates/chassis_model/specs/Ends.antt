@@ -13,7 +13,7 @@ use Rattle.protocol.specs.Tables.{put, put-same, put-other}
 use Rattle.protocol.specs.Ledger.{Ledger}
 use Rattle.protocol.specs.Chassis as protocol
 use Rattle.protocol.specs.Chassis.{Message, Replica, Chassis, taken, issued}
-use Rattle.protocol.specs.Steps.{taken-N}
+use Rattle.protocol.specs.InvariantSteps.{taken-N}
 use Rattle.wire.specs.declared.Message as wire
 use Rattle.wire.specs.Message.{called-length, reads, front-length, message-length}
 use Rattle.replica_model.specs.Calls.{on-wire}
@@ -24,8 +24,8 @@ use Rattle.chassis_model.specs.Run.{State, replica-of, log-of, N-at, fre
 use Rattle.chassis_model.specs.InStep.{reached-N, received-few, made-all}
 use Rattle.chassis_model.specs.Matches.{Holds, Matches}
 use Rattle.chassis_model.specs.Takes.{turn}
-use Rattle.chassis_model.specs.Made.{state-made, log-made, made-alike}
-use Rattle.chassis_model.specs.Delivered.{turn-stands, state-delivered, delivered-is-alike}
+use Rattle.chassis_model.specs.Made.{state-made, log-made, made-shows}
+use Rattle.chassis_model.specs.Delivered.{turn-stands, state-delivered, delivered-shows}
 
 -- ---- messages end in their log
 
@@ -81,12 +81,12 @@ module _ (r k L : ℕ) (st : State) (ch : Chassis) (ls : ℕ → Ledger) (h : Ma
   N-made-here : N-at r k L (state-made r k L st i m) i i ≡ suc (N-at r k L st i i)
   unfolding issued
   N-made-here =
-      made-alike r k L st ch ls h i hi m sends few good room .shows i hi .Ns i hi ∙ N-here i i m (ch .replica) ∙ ap suc (sym (reached-N r k (replica-of r k L st) ch ls (h .cards) i i hi hi))
+      made-shows r k L st ch ls h i hi m sends few good room .shows i hi .Ns i hi ∙ N-here i i m (ch .replica) ∙ ap suc (sym (reached-N r k (replica-of r k L st) ch ls (h .cards) i i hi hi))
 
   N-made-there : (j t : ℕ) → j < r → t < r → (j ≡ i → t ≡ i → ⊥) → N-at r k L (state-made r k L st i m) j t ≡ N-at r k L st j t
   unfolding issued
   N-made-there j t hj ht d =
-      made-alike r k L st ch ls h i hi m sends few good room .shows j hj .Ns t ht ∙ N-there i i m (ch .replica) j t d ∙ sym (reached-N r k (replica-of r k L st) ch ls (h .cards) j t hj ht)
+      made-shows r k L st ch ls h i hi m sends few good room .shows j hj .Ns t ht ∙ N-there i i m (ch .replica) j t d ∙ sym (reached-N r k (replica-of r k L st) ch ls (h .cards) j t hj ht)
 
   log-here : log-of r k L (state-made r k L st i m) i ≡ written (free-from r k L st i) (on-wire i (N-at r k L st i i + 1) m) (log-of r k L st i)
   log-here = log-made r k L st ch ls h i hi m sends few good room i ∙ put-same i _ (log-of r k L st)
@@ -102,14 +102,14 @@ module _ (r k L : ℕ) (st : State) (ch : Chassis) (ls : ℕ → Ledger) (h : Ma
   pub end-made : ends-in r k L (state-made r k L st i m) i i ≡ ends-in r k L st i i + message-length (on-wire i (N-at r k L st i i + 1) m)
   end-made =
       rw (N-made-here, log-here)
-      (end-more (log-of r k L st i) (wire-log i (ch .log i)) (h .holds i hi) (h .cards .alike .readable i hi) (on-wire i (N-at r k L st i i + 1) m) good (N-at r k L st i i) own-all)
+      (end-more (log-of r k L st i) (wire-log i (ch .log i)) (h .holds i hi) (h .cards .cards-show .readable i hi) (on-wire i (N-at r k L st i i + 1) m) good (N-at r k L st i i) own-all)
 
   pub ends-made : (j t : ℕ) → j < r → t < r → (j ≡ i → t ≡ i → ⊥) → ends-in r k L (state-made r k L st i m) j t ≡ ends-in r k L st j t
   ends-made j t hj ht d =
       rw (N-made-there j t hj ht d)
       (by-place t i
       (λ e. rw (e, log-here)
-      (end-same (log-of r k L st i) (wire-log i (ch .log i)) (h .holds i hi) (h .cards .alike .readable i hi) (on-wire i (N-at r k L st i i + 1) m) good (N-at r k L st i i) own-all
+      (end-same (log-of r k L st i) (wire-log i (ch .log i)) (h .holds i hi) (h .cards .cards-show .readable i hi) (on-wire i (N-at r k L st i i + 1) m) good (N-at r k L st i i) own-all
       (N-at r k L st j i) (received-before j hj)))
       (λ f. rw (log-there t f)))
 
@@ -120,13 +120,13 @@ module _ (r k L : ℕ) (st : State) (ch : Chassis) (ls : ℕ → Ledger) (h : Ma
   N-delivered-here : N-at r k L (state-delivered r k L st i s (turn ch i s)) i s ≡ suc (N-at r k L st i s)
   unfolding protocol.delivered
   N-delivered-here =
-      delivered-is-alike r k L st ch ls h i s hi hs waits apart .shows i hi .Ns s hs ∙ N-here i s (turn ch i s) (ch .replica)
+      delivered-shows r k L st ch ls h i s hi hs waits apart .shows i hi .Ns s hs ∙ N-here i s (turn ch i s) (ch .replica)
       ∙ ap suc (sym (reached-N r k (replica-of r k L st) ch ls (h .cards) i s hi hs))
 
   N-delivered-there : (j t : ℕ) → j < r → t < r → (j ≡ i → t ≡ s → ⊥) → N-at r k L (state-delivered r k L st i s (turn ch i s)) j t ≡ N-at r k L st j t
   unfolding protocol.delivered
   N-delivered-there j t hj ht d =
-      delivered-is-alike r k L st ch ls h i s hi hs waits apart .shows j hj .Ns t ht ∙ N-there i s (turn ch i s) (ch .replica) j t d
+      delivered-shows r k L st ch ls h i s hi hs waits apart .shows j hj .Ns t ht ∙ N-there i s (turn ch i s) (ch .replica) j t d
       ∙ sym (reached-N r k (replica-of r k L st) ch ls (h .cards) j t hj ht)
 
   pub end-delivered : ends-in r k L (state-delivered r k L st i s (turn ch i s)) i s

@@ -4,7 +4,7 @@ use mathlib.Core.List.{List, map}
 use mathlib.Core.Bool.{Bool, cond}
 use lib.Dec.{eqb}
 use Rattle.protocol.specs.Ledger as protocol
-use Rattle.protocol.specs.Ledger.{Ledger, count, clear, deliver, empty-ledger, kept, holds, ledger-value, ledger-holders}
+use Rattle.protocol.specs.Ledger.{Ledger, count, clear, deliver, empty-ledger, after-steps, holds, ledger-value, ledger-holders}
 use Rattle.replica_model.specs.declared.Reading.{Reading}
 use Rattle.replica_model.specs.Calls.{count-below}
 use Rattle.chassis_model.specs.declared.Step.{Step}
@@ -22,7 +22,7 @@ was-accepted answer = eqb answer 0
 
 -- the ledger of counter q on a chassis of r cards, after the steps with these answers
 unfoldable pub ledger-of : ℕ → ℕ → List Step → List ℕ → Ledger
-ledger-of r q steps answers = kept r q (map ledger-step steps) (map was-accepted answers) empty-ledger
+ledger-of r q steps answers = after-steps r q (map ledger-step steps) (map was-accepted answers) empty-ledger
 
 -- an accepted read that gives the ledger's value and holding cards at card i
 unfoldable pub ledger-reading : ℕ → ℕ → Ledger → Reading
@@ -30,5 +30,5 @@ ledger-reading r i l = record {
   number = 0;
   value = ledger-value i l;
   holders = ledger-holders r i l;
-  count = count-below r (λ j. holds i j l);
+  «holder_count» = count-below r (λ j. holds i j l);
 }

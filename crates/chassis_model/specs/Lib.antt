@@ -2,7 +2,7 @@
 -- reader has to believe, and LAWS are what the proofs cite. Read `Run`, `Ledger` and `Claims` first; for a driver, `Driver` and `DriverClaims`.
 
 -- DEFINITIONS
-pub mod Parts
+pub mod ListParts
 pub mod Log
 pub mod Run
 pub mod Ledger
@@ -29,13 +29,13 @@ pub mod CaughtUpClaims
 pub mod ClearClaims
 pub mod ClearedExamples
 -- LAWS. Lists in parts, logs of messages.
-pub mod PartLaws
+pub mod ListPartsLaws
 pub mod LogLaws
 pub mod Numbered
 -- The cards beside the theory's chassis and ledgers; the two moves; what a card reads, sends and takes.
 pub mod InStep
 pub mod Moves
-pub mod Accepted
+pub mod AcceptedMessages
 pub mod Reads
 pub mod Sends
 pub mod Takes
@@ -45,7 +45,7 @@ pub mod TheoryReads
 pub mod Agreement
 -- A state of a run beside them, and the steps, each beside the theory's.
 pub mod Matches
-pub mod Fresh
+pub mod FreshRun
 pub mod Stepping
 pub mod Made
 pub mod Delivered

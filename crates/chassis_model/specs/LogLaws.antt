@@ -1,5 +1,5 @@
 -- LAWS. A log that begins with the bytes of messages: where the messages end, which one waits, and what one more message at the end changes.
--- By induction over the messages: the first stands in front (`front-of-message` of wire), and the rest of the log is a log of the others. Assumes nothing.
+-- By induction over the messages: the first stands in front (`front-of-message` of wire), and the rest of the log is a log of the others.
 use Prim.Native.Nat.{ℕ, zero, suc, _+_, _-_, _≤_, _<_}
 use mathlib.Core.Path.{_≡_, refl, sym, ap, _∙_}
 use mathlib.Core.Bool.{true}

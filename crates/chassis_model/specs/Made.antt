@@ -7,7 +7,7 @@ use mathlib.Core.List.{List, [], _∷_, _++_}
 use native.Mathlib.Omega.{arith}
 use lib.ListN.{length, take, drop, length-append, length-take, length-drop, take-append-drop}
 use lib.Dec.{eqb}
-use Rattle.protocol.specs.Limits.{MAX, no-such-counter, no-more-messages, output-too-short, log-too-short}
+use Rattle.protocol.specs.Limits.{MAX, bad-counter, exhausted, short-output, log-full}
 use Rattle.protocol.specs.Cases.{by-place}
 use Rattle.protocol.specs.Tables.{put, put-same, put-other}
 use Rattle.protocol.specs.Ledger.{Ledger}
@@ -17,15 +17,15 @@ use Rattle.wire.specs.Message.{message-bytes, message-length}
 use Rattle.wire.specs.Claims.{message-bytes-length}
 use Rattle.replica_model.specs.Layout.{replica-length}
 use Rattle.replica_model.specs.Calls.{on-wire, SendOutcome, not-sent}
-use Rattle.chassis_model.specs.Parts.{put-part}
-use Rattle.chassis_model.specs.PartLaws.{part-length, put-part-same, put-part-length, part-put}
+use Rattle.chassis_model.specs.ListParts.{put-part}
+use Rattle.chassis_model.specs.ListPartsLaws.{part-length, put-part-same, put-part-length, part-put}
 use Rattle.chassis_model.specs.Run.{State, Stepped, replica-of, log-of, N-at, free-from, made}
 use Rattle.chassis_model.specs.Log.{end-of}
 use Rattle.chassis_model.specs.LogLaws.{Readable, AllReadable, written, written-log}
 use Rattle.chassis_model.specs.Numbered.{wire-log, wire-log-append, length-numbered, Sendable}
-use Rattle.chassis_model.specs.InStep.{Alike, reached-N, made-all}
+use Rattle.chassis_model.specs.InStep.{CardsShow, reached-N, made-all}
 use Rattle.chassis_model.specs.Matches.{Holds, Matches}
-use Rattle.chassis_model.specs.Moves.{words-after, alike-same}
+use Rattle.chassis_model.specs.Moves.{words-after, cards-show-same}
 use Rattle.chassis_model.specs.Sends.{call-of, next-message, next-size, call-cases, issued-here}
 
 -- ---- one log: a message goes to its end
@@ -41,7 +41,7 @@ module _ (r k L : ℕ) (st : State) (i : ℕ) where
   -- what the step makes of the call's outcome
   abbrev pub made-of : SendOutcome → Stepped
   made-of done = record {
-    answer = cond (eqb (done .answer .number) output-too-short) log-too-short (done .answer .number);
+    answer = cond (eqb (done .answer .number) short-output) log-full (done .answer .number);
     state = record {
       words = put-part (replica-length r k) i (done .words) (st .words);
       logs = put-part L i (take (free-from r k L st i) (log-of r k L st i) ++ done .out) (st .logs);
@@ -57,7 +57,7 @@ module _ (r k L : ℕ) (st : State) (i : ℕ) where
 
   pub declined-made : (number : ℕ)
       → made-of (not-sent number (replica-of r k L st i) (drop (free-from r k L st i) (log-of r k L st i)))
-      ≡ record { answer = cond (eqb number output-too-short) log-too-short number; state = st }
+      ≡ record { answer = cond (eqb number short-output) log-full number; state = st }
   declined-made number =
       rw (put-part-same (replica-length r k) i (st .words), take-append-drop (free-from r k L st i) (log-of r k L st i), put-part-same L i (st .logs))
 
@@ -69,26 +69,26 @@ written-length at x log room =
 
 module _ (r k L : ℕ) (st : State) (ch : Chassis) (ls : ℕ → Ledger) (h : Matches r k L st ch ls) (counts : Bool) (i q : ℕ) (hi : i < r) where
   pub made-cases : (P : Stepped → Type 0)
-      → (k ≤ q → P (record { answer = no-such-counter; state = st }))
-      → (q < k → N-at r k L st i i ≡ MAX → P (record { answer = no-more-messages; state = st }))
+      → (k ≤ q → P (record { answer = bad-counter; state = st }))
+      → (q < k → N-at r k L st i i ≡ MAX → P (record { answer = exhausted; state = st }))
       → (q < k → N-at r k L st i i < MAX → length (drop (free-from r k L st i) (log-of r k L st i)) < next-size r (replica-of r k L st) ch counts i q
-      → P (record { answer = log-too-short; state = st }))
+      → P (record { answer = log-full; state = st }))
       → (q < k → N-at r k L st i i < MAX → next-size r (replica-of r k L st) ch counts i q ≤ length (drop (free-from r k L st i) (log-of r k L st i))
       → P (record { answer = 0; state = state-made r k L st i (next-message r ch counts i q) }))
       → P (made r k L i (call-of counts q) st)
   unfolding made
   made-cases P three four fourteen sends =
       call-cases r k (replica-of r k L st) ch ls (h .cards) counts i q hi (λ done. P (made-of r k L st i done)) (drop (free-from r k L st i) (log-of r k L st i))
-      (λ a. rw (declined-made r k L st i no-such-counter) (three a))
-      (λ a b. rw (declined-made r k L st i no-more-messages) (four a b))
-      (λ a b c. rw (declined-made r k L st i output-too-short) (fourteen a b c))
+      (λ a. rw (declined-made r k L st i bad-counter) (three a))
+      (λ a b. rw (declined-made r k L st i exhausted) (four a b))
+      (λ a b c. rw (declined-made r k L st i short-output) (fourteen a b c))
       sends
 
 -- ---- the state after a message is made
 
 module _ (r k L : ℕ) (st : State) (ch : Chassis) (ls : ℕ → Ledger) (h : Matches r k L st ch ls) (i : ℕ) (hi : i < r) (m : Message) (sends : Sendable r k m)
     (few : N-at r k L st i i < MAX) (good : Readable (on-wire i (N-at r k L st i i + 1) m)) where
-  made-here : Alike r k (put i (words-after i m (replica-of r k L st i)) (replica-of r k L st)) (issued i m ch)
+  made-here : CardsShow r k (put i (words-after i m (replica-of r k L st i)) (replica-of r k L st)) (issued i m ch)
   made-here = issued-here r k (replica-of r k L st) ch ls (h .cards) i hi m sends few good
 
   words-length : length (words-after i m (replica-of r k L st i)) ≡ replica-length r k
@@ -111,9 +111,9 @@ module _ (r k L : ℕ) (st : State) (ch : Chassis) (ls : ℕ → Ledger) (h : Ma
     log-made j = part-put r L i (written (free-from r k L st i) (on-wire i (N-at r k L st i i + 1) m) (log-of r k L st i)) (st .logs) (h .logs-fit) hi log-length j
 
     -- each card's words and each log are those of the chassis after it
-    pub made-alike : Alike r k (replica-of r k L (state-made r k L st i m)) (issued i m ch)
-    made-alike =
-        alike-same r k _ (replica-of r k L (state-made r k L st i m)) (issued i m ch)
+    pub made-shows : CardsShow r k (replica-of r k L (state-made r k L st i m)) (issued i m ch)
+    made-shows =
+        cards-show-same r k _ (replica-of r k L (state-made r k L st i m)) (issued i m ch)
         (λ j l. part-put r (replica-length r k) i (words-after i m (replica-of r k L st i)) (st .words) (h .words-fit) hi words-length j)
         made-here
 
@@ -121,7 +121,7 @@ module _ (r k L : ℕ) (st : State) (ch : Chassis) (ls : ℕ → Ledger) (h : Ma
     log-more =
         let all = reached-N r k (replica-of r k L st) ch ls (h .cards) i i hi hi ∙ made-all r k (replica-of r k L st) ch ls (h .cards) i in
         rw (all, wire-log-append i (ch .log i) m)
-        (holds-more (log-of r k L st i) (wire-log i (ch .log i)) _ (length (ch .log i)) (sym (length-numbered i 0 (ch .log i))) (h .holds i hi) (h .cards .alike .readable i hi)
+        (holds-more (log-of r k L st i) (wire-log i (ch .log i)) _ (length (ch .log i)) (sym (length-numbered i 0 (ch .log i))) (h .holds i hi) (h .cards .cards-show .readable i hi)
         (rw all at good))
 
     pub made-holds : (j : ℕ) → j < r → Holds (log-of r k L (state-made r k L st i m) j) (wire-log j (issued i m ch .log j))

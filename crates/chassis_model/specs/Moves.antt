@@ -9,19 +9,19 @@ use Rattle.protocol.specs.Limits.{MAX}
 use Rattle.protocol.specs.Cases.{by-place}
 use Rattle.protocol.specs.Tables.{put, put-same, put-at, put-other}
 use Rattle.protocol.specs.Lists.{places-more}
-use Rattle.protocol.specs.Ledger.{Step, Ledger, fed}
+use Rattle.protocol.specs.Ledger.{Step, Ledger, after-step}
 use Rattle.protocol.specs.Chassis.{Message, no-message, Replica, Chassis, taken, issued, delivered, done, enabled, Offer, stepped}
-use Rattle.protocol.specs.Stores.{Shows, InLimits, taken-words, taken-shows}
-use Rattle.protocol.specs.Steps.{taken-N}
-use Rattle.protocol.specs.Theorem.{Ok, step-ok}
+use Rattle.protocol.specs.StoreLaws.{Shows, InLimits, taken-words, taken-shows}
+use Rattle.protocol.specs.InvariantSteps.{taken-N}
+use Rattle.protocol.specs.Theorem.{Invariant, step-invariant}
 use Rattle.replica_model.specs.Layout.{cards, counters}
-use Rattle.replica_model.specs.Store.{layout}
+use Rattle.replica_model.specs.LayoutLaws.{layout}
 use Rattle.replica_model.specs.Calls.{on-wire}
-use Rattle.replica_model.specs.Terms.{Right}
+use Rattle.replica_model.specs.ClaimTerms.{Right}
 use Rattle.replica_model.specs.Performed.{performed}
 use Rattle.chassis_model.specs.LogLaws.{Readable, AllReadable, readable-more}
 use Rattle.chassis_model.specs.Numbered.{wire-log, wire-log-append, Sendable, sendable-limits}
-use Rattle.chassis_model.specs.InStep.{Sizes, Heads, Alike, InStep, right-of-words}
+use Rattle.chassis_model.specs.InStep.{Sizes, Heads, CardsShow, InStep, right-of-words}
 
 -- ---- one replica: card s's message m is taken
 
@@ -45,16 +45,16 @@ module _ (r k i s : ℕ) (m : Message) (b : List ℕ) (h : Heads r k i b) (hs : 
 
 -- ---- the chassis
 
-module _ (r k : ℕ) (replicas : ℕ → List ℕ) (ch : Chassis) (z : Sizes r k) (a : Alike r k replicas ch) where
+module _ (r k : ℕ) (replicas : ℕ → List ℕ) (ch : Chassis) (z : Sizes r k) (a : CardsShow r k replicas ch) where
   right : (i : ℕ) → i < r → Right (replicas i)
   right i hi = right-of-words r k i (replicas i) z hi (a .heads i hi) (a .shows i hi .fits)
 
   -- card i makes m, which is its next message
-  pub issued-alike : (i : ℕ) (m : Message) → i < r → Sendable r k m → ch .replica i .N i ≡ length (ch .log i) → ch .replica i .N i < MAX
+  pub issued-cards-show : (i : ℕ) (m : Message) → i < r → Sendable r k m → ch .replica i .N i ≡ length (ch .log i) → ch .replica i .N i < MAX
       → Readable (on-wire i (ch .replica i .N i + 1) m)
-      → Alike r k (put i (words-after i m (replicas i)) replicas) (issued i m ch)
+      → CardsShow r k (put i (words-after i m (replicas i)) replicas) (issued i m ch)
   unfolding issued
-  issued-alike i m hi sends own few good = record {
+  issued-cards-show i m hi sends own few good = record {
     heads = λ j l. by-place j i (λ e. rw e (simp put-same (taken-heads r k i i m (replicas i) (a .heads i hi) hi (sendable-limits r k m sends) (right i hi)))) (λ d. simp put-other (a .heads j l));
     shows = λ j l. by-place j i (λ e. simp put-at (taken-alike r k i i m (replicas i) (a .heads i hi) hi (sendable-limits r k m sends) (ch .replica i) (a .shows i hi))) (λ d. simp put-other (a .shows j l));
     readable = λ j l. by-place j i (λ e. rw e (simp put-same log-more)) (λ d. simp put-other (a .readable j l));
@@ -69,10 +69,10 @@ module _ (r k : ℕ) (replicas : ℕ → List ℕ) (ch : Chassis) (z : Sizes r k
       log-more = rw (wire-log-append i (ch .log i) m) (readable-more (wire-log i (ch .log i)) _ (a .readable i hi) (rw own at good))
 
   -- card i takes card s's message m, whose turn it is
-  pub delivered-alike : (i s : ℕ) → i < r → s < r → (i ≡ s → ⊥) → ch .replica i .N s < length (ch .log s)
-      → Alike r k (put i (words-after s (getD (ch .log s) (ch .replica i .N s) no-message) (replicas i)) replicas) (delivered i s ch)
+  pub delivered-cards-show : (i s : ℕ) → i < r → s < r → (i ≡ s → ⊥) → ch .replica i .N s < length (ch .log s)
+      → CardsShow r k (put i (words-after s (getD (ch .log s) (ch .replica i .N s) no-message) (replicas i)) replicas) (delivered i s ch)
   unfolding delivered
-  delivered-alike i s hi hs apart waits =
+  delivered-cards-show i s hi hs apart waits =
       let m = getD (ch .log s) (ch .replica i .N s) no-message in
       let on = sendable-limits r k m (a .sendable s hs (ch .replica i .N s) waits) in
       record {
@@ -84,9 +84,9 @@ module _ (r k : ℕ) (replicas : ℕ → List ℕ) (ch : Chassis) (z : Sizes r k
       }
 
 -- tables that agree below r
-pub alike-same : (r k : ℕ) (replicas replicas′ : ℕ → List ℕ) (ch : Chassis)
-    → ((i : ℕ) → i < r → replicas′ i ≡ replicas i) → Alike r k replicas ch → Alike r k replicas′ ch
-alike-same r k replicas replicas′ ch e a = record {
+pub cards-show-same : (r k : ℕ) (replicas replicas′ : ℕ → List ℕ) (ch : Chassis)
+    → ((i : ℕ) → i < r → replicas′ i ≡ replicas i) → CardsShow r k replicas ch → CardsShow r k replicas′ ch
+cards-show-same r k replicas replicas′ ch e a = record {
   heads = λ i l. rw (e i l) (a .heads i l);
   shows = λ i l. rw (e i l) (a .shows i l);
   readable = a .readable;
@@ -104,9 +104,9 @@ module _ (r k : ℕ) (replicas : ℕ → List ℕ) (ch : Chassis) (ls : ℕ → 
   unfolding stepped
   done-after = rw on
 
-  oks-after : (q : ℕ) → Ok r q (stepped r (accepted-offer s) ch) (fed r q s true (ls q))
-  oks-after q = rw on at (step-ok r q (accepted-offer s) ch (ls q) (h .oks q))
+  invariants-after : (q : ℕ) → Invariant r q (stepped r (accepted-offer s) ch) (after-step r q s true (ls q))
+  invariants-after q = rw on at (step-invariant r q (accepted-offer s) ch (ls q) (h .invariants q))
 
-  pub accepted-in-step : (replicas′ : ℕ → List ℕ) → Alike r k replicas′ (done r s ch)
-      → InStep r k replicas′ (stepped r (accepted-offer s) ch) (λ q. fed r q s true (ls q))
-  accepted-in-step replicas′ alike = record { sizes = h .sizes; alike = rw done-after alike; oks = oks-after }
+  pub accepted-in-step : (replicas′ : ℕ → List ℕ) → CardsShow r k replicas′ (done r s ch)
+      → InStep r k replicas′ (stepped r (accepted-offer s) ch) (λ q. after-step r q s true (ls q))
+  accepted-in-step replicas′ cards-show = record { sizes = h .sizes; cards-show = rw done-after cards-show; invariants = invariants-after }

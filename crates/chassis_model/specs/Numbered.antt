@@ -9,7 +9,7 @@ use lib.Seq.{take-append-seam}
 use lib.Dec.{eqb}
 use Rattle.protocol.specs.Chassis as protocol
 use Rattle.protocol.specs.Chassis.{increment, clearing, no-message, counter-of}
-use Rattle.protocol.specs.Stores.{CardsBelow, InLimits}
+use Rattle.protocol.specs.StoreLaws.{CardsBelow, InLimits}
 use Rattle.wire.specs.declared.Message as wire
 use Rattle.wire.specs.Message as form
 use Rattle.wire.specs.Message.{no-entry, increment-message}

@@ -5,7 +5,7 @@ use Prim.Native.Nat.{ℕ}
 use mathlib.Core.Path.{_≡_, sym, ap₂}
 use mathlib.Core.Bool.{Bool}
 use mathlib.Core.List.{List, [], _∷_, map}
-use Rattle.protocol.specs.Ledger.{Step, Ledger, empty-ledger, kept}
+use Rattle.protocol.specs.Ledger.{Step, Ledger, empty-ledger, after-steps}
 use Rattle.protocol.specs.Chassis.{fresh-chassis, Offer, answers}
 use Rattle.protocol.specs.Runs.{step-of, after-run}
 use Rattle.chassis_model.specs.Ledger.{was-accepted}
@@ -21,7 +21,7 @@ offers-of (s ∷ ss) [] = []
 offers-of (s ∷ ss) (n ∷ ns) = offer s n ∷ offers-of ss ns
 
 abbrev pub ledgers-told : ℕ → List Step → List ℕ → ℕ → Ledger
-ledgers-told r steps numbers q = kept r q steps (map was-accepted numbers) empty-ledger
+ledgers-told r steps numbers q = after-steps r q steps (map was-accepted numbers) empty-ledger
 
 pub record TheoryRun (r k : ℕ) (steps : List Step) (numbers : List ℕ) (replicas : ℕ → List ℕ) : Type 0 where
   pub cards : InStep r k replicas (after-run r (offers-of steps numbers)) (ledgers-told r steps numbers)

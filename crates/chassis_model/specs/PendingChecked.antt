@@ -14,10 +14,10 @@ use Rattle.protocol.specs.RoundRobin.{IsLink, Orderly}
 use Rattle.wire.specs.Message.{message-at}
 use Rattle.replica_model.specs.Layout.{replica-length}
 use Rattle.replica_model.specs.Calls.{take-on, content}
-use Rattle.replica_model.specs.Terms.{OnlyMoves}
+use Rattle.replica_model.specs.ClaimTerms.{OnlyMoves}
 use Rattle.replica_model.specs.Claims.{take-performs, take-moves, take-exact}
-use Rattle.chassis_model.specs.Parts.{put-part}
-use Rattle.chassis_model.specs.PartLaws.{part-put, put-part-length, put-part-same}
+use Rattle.chassis_model.specs.ListParts.{put-part}
+use Rattle.chassis_model.specs.ListPartsLaws.{part-put, put-part-length, put-part-same}
 use Rattle.chassis_model.specs.Log.{waiting-part}
 use Rattle.chassis_model.specs.Run.{State, N-at, replica-of, log-of, delivered}
 use Rattle.chassis_model.specs.Pending.{state-links, Checked}

@@ -25,9 +25,9 @@ use Rattle.chassis_model.specs.Run.{Step, State, N-at, replica-of, log-o
 use Rattle.chassis_model.specs.Answers.{fresh-state}
 use Rattle.chassis_model.specs.InStep.{reached-N, made-all}
 use Rattle.chassis_model.specs.Matches.{Sizes, Matches}
-use Rattle.chassis_model.specs.Fresh.{fresh-matches}
+use Rattle.chassis_model.specs.FreshRun.{fresh-matches}
 use Rattle.chassis_model.specs.Stepping.{step-of-kind}
-use Rattle.chassis_model.specs.Delivered.{one-delivered, delivered-is-alike}
+use Rattle.chassis_model.specs.Delivered.{one-delivered, delivered-shows}
 use Rattle.chassis_model.specs.Steps.{link-matches}
 use Rattle.chassis_model.specs.Theorem.{run-matches, state-run}
 use Rattle.chassis_model.specs.Agreement.{same-reads, received-all}
@@ -50,7 +50,7 @@ module _ (r k L : ℕ) (i s : ℕ) (st : State) (is : IsLink r i s) (g : Reached
   N-after : (j u : ℕ) → j < r → u < r → N-at r k L (delivered r k L i s st .state) j u ≡ protocol.delivered i s (g .chassis) .replica j .N u
   N-after j u hj hu =
       rw (one-delivered r k L st (g .chassis) (g .ledgers) (g .matches) i s (is .0) (is .1) (omega arith) (is .2))
-      (delivered-is-alike r k L st (g .chassis) (g .ledgers) (g .matches) i s (is .0) (is .1) (omega arith) (is .2) .shows j hj .Ns u hu)
+      (delivered-shows r k L st (g .chassis) (g .ledgers) (g .matches) i s (is .0) (is .1) (omega arith) (is .2) .shows j hj .Ns u hu)
 
 module _ (r k L : ℕ) where
   N-is : (st : State) (g : Reached r k L st) (i s : ℕ) → i < r → s < r → N-at r k L st i s ≡ g .chassis .replica i .N s
@@ -114,14 +114,14 @@ module _ (r k L : ℕ) (st : State) (g : Reached r k L st) where
       let all = N-is r k L st g s s hs hs ∙ made-all r k (replica-of r k L st) ch (g .ledgers) (h .cards) s in
       let made : n < length (ch .log s) = omega arith in
       let on = h .holds s hs in
-      let stands = stands-in-log (wire-log s (ch .log s)) (on .rest) (log-of r k L st s) (on .bytes) (h .cards .alike .readable s hs) n
+      let stands = stands-in-log (wire-log s (ch .log s)) (on .rest) (log-of r k L st s) (on .bytes) (h .cards .cards-show .readable s hs) n
       (rw (length-numbered s 0 (ch .log s)) made) in
       rw (stands .waits, wire-log-at s (ch .log s) n made) (fields-are r k (replica-of r k L st) ch (g .ledgers) (h .cards) s s hs hs n made .1)
 
   reached-checked : Checked r k L st
   reached-checked = record {
     words-fit = g .matches .words-fit;
-    heads = λ i hi. let h = g .matches .cards .alike .heads i hi in (h .cards-are, h .counters-are, h .own-is);
+    heads = λ i hi. let h = g .matches .cards .cards-show .heads i hi in (h .cards-are, h .counters-are, h .own-is);
     senders = sender-is;
   }
 

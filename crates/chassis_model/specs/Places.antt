@@ -7,7 +7,7 @@ use mathlib.Core.List.{List}
 use native.Mathlib.Omega.{arith}
 use lib.ListN.{length, getD, set, take, drop, replicate, length-set, length-drop, length-replicate, getD-replicate}
 use lib.Seq.{getD-set-same, getD-set-other, set-getD}
-use Rattle.protocol.specs.Limits.{no-such-counter, no-more-messages, output-too-short}
+use Rattle.protocol.specs.Limits.{bad-counter, exhausted, short-output}
 use Rattle.protocol.specs.Cases.{by-place}
 use Rattle.protocol.specs.Ledger.{Ledger}
 use Rattle.protocol.specs.Chassis.{Chassis}
@@ -15,12 +15,12 @@ use Rattle.wire.specs.declared.Message as wire
 use Rattle.wire.specs.Message.{called-length}
 use Rattle.replica_model.specs.Calls.{SendOutcome, not-sent}
 use Rattle.chassis_model.specs.Log.{waiting-part, end-of}
-use Rattle.chassis_model.specs.PartLaws.{part-length}
+use Rattle.chassis_model.specs.ListPartsLaws.{part-length}
 use Rattle.chassis_model.specs.LogLaws.{Stands}
 use Rattle.chassis_model.specs.Run.{State, Stepped, replica-of, log-of, N-at, free-from, made, delivered}
 use Rattle.chassis_model.specs.InStep.{Sizes, reached-N}
 use Rattle.chassis_model.specs.Matches.{Matches}
-use Rattle.chassis_model.specs.Fresh.{fresh-state, fresh-matches}
+use Rattle.chassis_model.specs.FreshRun.{fresh-state, fresh-matches}
 use Rattle.chassis_model.specs.Sends.{call-of, next-message, message-sendable, message-readable, call-cases}
 use Rattle.chassis_model.specs.Takes.{turn}
 use Rattle.chassis_model.specs.Made.{made-of, state-made, declined-made}
@@ -115,9 +115,9 @@ module _ (r k L : ℕ) (st : State) (places : List ℕ) (h : Reached r k L st pl
     places-made : (counts : Bool) (q : ℕ) → PlacesAfter (call-of counts q (replica-of r k L st i) (drop (free-from r k L st i) (log-of r k L st i)))
     places-made counts q =
         call-cases r k (replica-of r k L st) (h .chassis) (h .ledgers) (h .matches .cards) counts i q hi PlacesAfter (drop (free-from r k L st i) (log-of r k L st i))
-        (λ a. places-declined no-such-counter)
-        (λ a b. places-declined no-more-messages)
-        (λ a b c. places-declined output-too-short)
+        (λ a. places-declined bad-counter)
+        (λ a b. places-declined exhausted)
+        (λ a b c. places-declined short-output)
         (λ hq few room.
         let m = next-message r (h .chassis) counts i q in
         let sends = message-sendable counts r k i q (h .chassis .replica i) hq in

@@ -9,7 +9,7 @@ use lib.ListN.{length}
 use borrow.Author.Tests.{eqb-true}
 use Rattle.protocol.specs.Cases.{by-test, and-left, and-right, and-no-right}
 use Rattle.protocol.specs.Ledger as ledger
-use Rattle.protocol.specs.Ledger.{Ledger, empty-ledger, kept}
+use Rattle.protocol.specs.Ledger.{Ledger, empty-ledger, after-steps}
 use Rattle.protocol.specs.Chassis.{Chassis, Offer, answers, read-value}
 use Rattle.protocol.specs.Theorem.{value-is}
 use Rattle.protocol.specs.ReadAndClear as theory
@@ -77,7 +77,7 @@ module _ (r k h q : ℕ) (hh : h < r) (hq : q < k) where
     value-now : read-value r q (ch .replica h) ≡ read-on (st .words h) q .value
     unfolding ledger-reading
     value-now =
-        value-is r q ch (ls q) (m .cards .oks q) h
+        value-is r q ch (ls q) (m .cards .invariants q) h
         ∙ sym (ap (λ (a : Reading). a .value) (read-matches r k (st .words) ch ls (m .cards) h q hh hq))
 
     read-at : (c : Call) (a : Bool)
@@ -118,5 +118,5 @@ harvest-total r k q h right calls genuine one hh hq =
     let all = history-collects r k h q hh hq calls (opened r k) fresh-chassis (λ q. empty-ledger) (opened-matches r k (sizes r k right)) genuine one in
     let total = names-received r q h os (all .only) in
     let value = reads.value-read r k _ _ _ t h q hh hq in
-    let fed = told r k _ _ _ t (λ ss fs. length (kept r q ss fs empty-ledger .received h)) in
-    rw (← (all .sum-is), value, fed, ← (same-offers calls ns)) total
+    let after-step = told r k _ _ _ t (λ ss fs. length (after-steps r q ss fs empty-ledger .received h)) in
+    rw (← (all .sum-is), value, after-step, ← (same-offers calls ns)) total

@@ -6,13 +6,13 @@ use borrow.Author.Tests.{lt-ltb}
 use Rattle.protocol.specs.Entry.{present}
 use Rattle.protocol.specs.Ledger.{Ledger, holds}
 use Rattle.protocol.specs.Chassis.{Replica, Chassis, read-value, read-holders}
-use Rattle.protocol.specs.Stores.{Shows, value-shown, holders-shown}
+use Rattle.protocol.specs.StoreLaws.{Shows, value-shown, holders-shown}
 use Rattle.protocol.specs.Makers.{holds-is}
 use Rattle.protocol.specs.Theorem.{value-is, holders-are}
 use Rattle.replica_model.specs.Layout.{cards, counters, entry-of}
-use Rattle.replica_model.specs.Store.{layout}
+use Rattle.replica_model.specs.LayoutLaws.{layout}
 use Rattle.replica_model.specs.Calls.{count-below, reading, read-on}
-use Rattle.replica_model.specs.Terms.{Right, RowOf, holders}
+use Rattle.replica_model.specs.ClaimTerms.{Right, RowOf, holders}
 use Rattle.replica_model.specs.RowLaws.{count-cong, right-from, row-from}
 use Rattle.chassis_model.specs.Ledger.{ledger-reading}
 use Rattle.chassis_model.specs.InStep.{Heads, InStep, reached-right, reached-row}
@@ -24,7 +24,7 @@ read-passes b q f l w = rw (right-from b f, lt-ltb q (counters b) l, row-from b 
 
 -- what is read, in words that show a replica
 reading-shown : (r k i q : ℕ) (b : List ℕ) (c : Replica) → Heads r k i b → Shows r k (layout r k) b c → q < k
-    → reading b q ≡ record { number = 0; value = read-value r q c; holders = read-holders r q c; count = count-below r (λ j. present (c .entry q j)) }
+    → reading b q ≡ record { number = 0; value = read-value r q c; holders = read-holders r q c; «holder_count» = count-below r (λ j. present (c .entry q j)) }
 unfolding reading
 reading-shown r k i q b c h s hq =
     rw (
@@ -38,23 +38,23 @@ reading-shown r k i q b c h s hq =
 module _ (r k : ℕ) (replicas : ℕ → List ℕ) (ch : Chassis) (ls : ℕ → Ledger) (h : InStep r k replicas ch ls) (i q : ℕ) (hi : i < r) (hq : q < k) where
   -- the ledger's holding cards are the replica's
   holding-is : (j : ℕ) → present (ch .replica i .entry q j) ≡ holds i j (ls q)
-  holding-is j = let ok = h .oks q in sym (holds-is q (ok .notes) (ok .valid) i (ok .row i) (ch .replica i) (ls q) (ok .cards i) j)
+  holding-is j = let ok = h .invariants q in sym (holds-is q (ok .notes) (ok .valid) i (ok .row i) (ch .replica i) (ls q) (ok .cards i) j)
 
   -- and so are the words'
   pub holders-counted : holders (replicas i) q ≡ count-below r (λ j. holds i j (ls q))
   holders-counted =
-      rw (h .alike .heads i hi .cards-are)
+      rw (h .cards-show .heads i hi .cards-are)
       (count-cong r (λ j. present (entry-of r (replicas i) q j)) (λ j. holds i j (ls q))
-      (λ j l. ap present (h .alike .shows i hi .entries q j hq l) ∙ holding-is j))
+      (λ j l. ap present (h .cards-show .shows i hi .entries q j hq l) ∙ holding-is j))
 
   pub read-matches : read-on (replicas i) q ≡ ledger-reading r i (ls q)
   unfolding ledger-reading
   read-matches =
-      let on = h .alike .heads i hi in
+      let on = h .cards-show .heads i hi in
       read-passes (replicas i) q (reached-right r k replicas ch ls h i hi) (rw (on .counters-are) hq) (reached-row r k replicas ch ls h i q hi hq)
-      ∙ reading-shown r k i q (replicas i) (ch .replica i) on (h .alike .shows i hi) hq
+      ∙ reading-shown r k i q (replicas i) (ch .replica i) on (h .cards-show .shows i hi) hq
       ∙ rw (
-        value-is r q ch (ls q) (h .oks q) i,
-        holders-are r q ch (ls q) (h .oks q) i,
+        value-is r q ch (ls q) (h .invariants q) i,
+        holders-are r q ch (ls q) (h .invariants q) i,
         count-cong r (λ j. present (ch .replica i .entry q j)) (λ j. holds i j (ls q)) (λ j l. holding-is j),
       )

@@ -4,11 +4,11 @@ use mathlib.Core.List.{List, [], _∷_, _++_}
 use mathlib.Core.Bool.{Bool, not, cond, _&&_, _||_}
 use lib.ListN.{length, take, drop}
 use lib.Dec.{ltb, eqb}
-use Rattle.protocol.specs.Limits.{output-too-short, no-such-card, wrong-sizes, no-such-step, none-waiting, log-too-short}
+use Rattle.protocol.specs.Limits.{short-output, bad-card, bad-sizes, bad-kind, nothing-waiting, log-full}
 use Rattle.wire.specs.Number.{int-at, unsigned-int}
 use Rattle.replica_model.specs.Layout.{replica-length, N-of, fresh-words}
 use Rattle.replica_model.specs.Calls.{check, sizes-in-range, SendOutcome, count-on, clear-on, take-on}
-use Rattle.chassis_model.specs.Parts.{part, put-part}
+use Rattle.chassis_model.specs.ListParts.{part, put-part}
 use Rattle.chassis_model.specs.Log.{waiting-part, end-of}
 pub use Rattle.chassis_model.specs.declared.Step.{Step}
 
@@ -57,7 +57,7 @@ module _ (r k L : ℕ) where
       let at = free-from st i in
       let done = call (replica-of st i) (drop at (log-of st i)) in
       record {
-        answer = cond (eqb (done .answer .number) output-too-short) log-too-short (done .answer .number);
+        answer = cond (eqb (done .answer .number) short-output) log-full (done .answer .number);
         state = record {
           words = put-part (replica-length r k) i (done .words) (st .words);
           logs = put-part L i (take at (log-of st i) ++ done .out) (st .logs);
@@ -69,7 +69,7 @@ module _ (r k L : ℕ) where
   unfoldable pub delivered : ℕ → ℕ → State → Stepped
   delivered i s st =
       let done = take-on (replica-of st i) (waiting-part (suc (N-at st i s)) (log-of st s)) in
-      check (ltb (N-at st i s) (N-at st s s)) (record { answer = none-waiting; state = st })
+      check (ltb (N-at st i s) (N-at st s s)) (record { answer = nothing-waiting; state = st })
       (record {
         answer = done .answer .number;
         state = record { words = put-part (replica-length r k) i (done .words) (st .words); logs = st .logs };
@@ -82,8 +82,8 @@ module _ (r k L : ℕ) where
   -- "Run steps: 12, 7 (any card named not below r), 3 (not for deliver), 4, 14, 13"; 3, 4 and 14 come from count and clear
   unfoldable pub step-on : Step → State → Stepped
   step-on s st =
-      check (eqb (s .kind) count-kind || eqb (s .kind) clear-kind || eqb (s .kind) deliver-kind) (record { answer = no-such-step; state = st })
-      (check (cards-right s) (record { answer = no-such-card; state = st })
+      check (eqb (s .kind) count-kind || eqb (s .kind) clear-kind || eqb (s .kind) deliver-kind) (record { answer = bad-kind; state = st })
+      (check (cards-right s) (record { answer = bad-card; state = st })
       (cond (eqb (s .kind) deliver-kind)
       (delivered (s .first) (s .second) st)
       (made (s .first) (λ b out. cond (eqb (s .kind) count-kind) (count-on b (s .second) out) (clear-on b (s .second) out)) st)))
@@ -112,7 +112,7 @@ pub record RunOutcome : Type 0 where
 unfoldable pub run-on : ℕ → ℕ → ℕ → List Step → List ℕ → List ℕ → List ℕ → RunOutcome
 run-on r k L steps words logs answers =
     let fresh : State = record { words = fresh-replicas r k r; logs = logs } in
-    check (sizes-right r k L (length steps) words logs answers) (record { number = wrong-sizes; words = words; logs = logs; answers = answers })
+    check (sizes-right r k L (length steps) words logs answers) (record { number = bad-sizes; words = words; logs = logs; answers = answers })
     (record {
       number = 0;
       words = state-after r k L steps fresh .words;
@@ -153,5 +153,5 @@ steps-of bytes = steps-at (length bytes / 12) bytes 0
 -- "byte steps not a multiple of 12 long give 11"
 unfoldable pub run-bytes-on : ℕ → ℕ → ℕ → List ℕ → List ℕ → List ℕ → List ℕ → RunOutcome
 run-bytes-on r k L bytes words logs answers =
-    check (eqb (length bytes % 12) 0) (record { number = wrong-sizes; words = words; logs = logs; answers = answers })
+    check (eqb (length bytes % 12) 0) (record { number = bad-sizes; words = words; logs = logs; answers = answers })
     (run-on r k L (steps-of bytes) words logs answers)

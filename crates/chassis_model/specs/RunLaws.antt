@@ -1,4 +1,4 @@
--- LAWS. A run by its sizes: accepted exactly when they are right, and otherwise 11 with all as it was. Assumes nothing.
+-- LAWS. A run by its sizes: accepted exactly when they are right, and otherwise 11 with all as it was.
 use Prim.Native.Nat.{ℕ, zero, suc, _+_, _/_, _%_}
 use mathlib.Core.Path.{_≡_, refl, ap}
 use mathlib.Core.Logic.{_↔_}
@@ -7,14 +7,14 @@ use mathlib.Core.List.{List}
 use native.Mathlib.Omega.{arith}
 use lib.ListN.{length}
 use borrow.Author.Tests.{eq-eqb, ne-eqb}
-use Rattle.protocol.specs.Limits.{wrong-sizes}
+use Rattle.protocol.specs.Limits.{bad-sizes}
 use Rattle.protocol.specs.Cases.{by-test, by-place}
 use Rattle.chassis_model.specs.Run.{Step, sizes-right, run-on, steps-at, steps-of, run-bytes-on}
 
 module _ (r k L : ℕ) (steps : List Step) (words logs answers : List ℕ) where
   pub accepted-sizes : let after = run-on r k L steps words logs answers in
       ((after .number ≡ 0) ↔ (sizes-right r k L (length steps) words logs answers ≡ true))
-      × ((after .number ≡ 0 → ⊥) → after ≡ record { number = wrong-sizes; words = words; logs = logs; answers = answers })
+      × ((after .number ≡ 0 → ⊥) → after ≡ record { number = bad-sizes; words = words; logs = logs; answers = answers })
   unfolding run-on
   accepted-sizes =
       by-test (sizes-right r k L (length steps) words logs answers)
@@ -35,7 +35,7 @@ module _ (r k L : ℕ) (bytes words logs answers : List ℕ) where
 
   pub accepted-sizes-over-bytes : let after = run-bytes-on r k L bytes words logs answers in
       ((after .number ≡ 0) ↔ ((length bytes % 12 ≡ 0) × (sizes-right r k L (length bytes / 12) words logs answers ≡ true)))
-      × ((after .number ≡ 0 → ⊥) → after ≡ record { number = wrong-sizes; words = words; logs = logs; answers = answers })
+      × ((after .number ≡ 0 → ⊥) → after ≡ record { number = bad-sizes; words = words; logs = logs; answers = answers })
   unfolding run-bytes-on
   accepted-sizes-over-bytes =
       by-place (length bytes % 12) 0

@@ -10,9 +10,9 @@ use Rattle.protocol.specs.declared.Entry.{Entry}
 use Rattle.protocol.specs.Tables.{put, sum, bits}
 use Rattle.protocol.specs.Entry.{incremented, cleared}
 use Rattle.protocol.specs.Names.{has, insert, join, names-after, tally, any, latest, beyond}
-use Rattle.protocol.specs.Ledger.{applied, sent, made, next-item, rest-items, handed, count-item, holds, clear-names, entered, fed, kept, ledger-value, ledger-holders}
+use Rattle.protocol.specs.Ledger.{applied, sent, made, next-item, rest-items, handed, count-item, holds, clear-names, after-accepted, after-step, after-steps, ledger-value, ledger-holders}
 use Rattle.protocol.specs.Chassis.{count-message, present-entries, clear-message, read-value, read-holders}
-use Rattle.protocol.specs.Stores.{cleared-words, taken-words, shown}
+use Rattle.protocol.specs.StoreLaws.{cleared-words, taken-words, shown}
 use Rattle.wire.specs.Number.{number-at, bytes-of}
 use Rattle.wire.specs.Message as form
 use Rattle.wire.specs.Message.{header-bytes, increment-bytes, entry-bytes, entries-bytes, clear-bytes, message-bytes, header-in-range, increment-in-range, clear-in-range, entry-in-range, entries-in-range, unused, in-range, increment-message, entries-at, called-length, message-at, reads, front-length}
@@ -21,7 +21,7 @@ use Rattle.replica_model.specs.declared.Reading.{Reading}
 use Rattle.replica_model.specs.Calls as calls
 use Rattle.replica_model.specs.Calls.{sizes-in-range, right, all-below, count-below, entry-well-formed, card-well-formed, row-well-formed, reading, read-on, sending, count-on, clear-on, content, all-entries, cards-known, increment-implausible, entry-plausible, plausible, taking, take-on}
 use Rattle.chassis_model.specs.declared.Step.{Step}
-use Rattle.chassis_model.specs.Parts.{part, put-part}
+use Rattle.chassis_model.specs.ListParts.{part, put-part}
 use Rattle.chassis_model.specs.Log.{waiting-part, end-of}
 use Rattle.chassis_model.specs.Run as run
 use Rattle.chassis_model.specs.Run.{State, replica-of, free-from, delivered, cards-right, step-on, state-after, answers-of, fresh-replicas, sizes-right, run-on}
@@ -62,7 +62,7 @@ abbrev same-entry : Entry → Entry → Bool
 same-entry e f = eqb (e .p) (f .p) && eqb (e .n) (f .n) && eqb (e .c) (f .c)
 
 abbrev same-reading : Reading → Reading → Bool
-same-reading a b = eqb (a .number) (b .number) && eqb (a .value) (b .value) && eqb (a .holders) (b .holders) && eqb (a .count) (b .count)
+same-reading a b = eqb (a .number) (b .number) && eqb (a .value) (b .value) && eqb (a .holders) (b .holders) && eqb (a .«holder_count») (b .«holder_count»)
 
 sum-of : List ℕ → ℕ
 sum-of [] = 0
@@ -84,7 +84,7 @@ holds-good s =
     let after = run-on r k L (s .steps) words logs answers in
     let st : State = record { words = after .words; logs = after .logs } in
     let b = replica-of r k L st (s .card) in
-    let due : Reading = record { number = 0; value = s .value; holders = s .holders; count = s .holding } in
+    let due : Reading = record { number = 0; value = s .value; holders = s .holders; «holder_count» = s .holding } in
     eqb (after .number) 0 && eqb (sum-of (after .answers)) 0
     && same-entry (entry-of r b (s .counter) (s .origin)) (s .entry) && eqb (C-of b (s .origin)) (s .C) && eqb (N-of r b (s .origin)) (s .N)
     && same-reading (read-on b (s .counter)) due
@@ -145,5 +145,5 @@ scenarios =
     ∷ []
 
 pub scenarios-hold : all-good scenarios ≡ true
-unfolding all-good holds-good scenarios listing overtaking not-yet sum-of put sum bits incremented cleared has insert join names-after tally any latest beyond applied sent made next-item rest-items handed count-item holds clear-names entered fed kept ledger-value ledger-holders count-message present-entries clear-message read-value read-holders cleared-words taken-words shown number-at bytes-of header-bytes increment-bytes entry-bytes entries-bytes clear-bytes message-bytes header-in-range increment-in-range clear-in-range entry-in-range entries-in-range unused in-range increment-message entries-at called-length message-at reads front-length form.clear-message fresh-words sizes-in-range right all-below count-below entry-well-formed card-well-formed row-well-formed reading read-on calls.sent sending count-on clear-on content all-entries cards-known increment-implausible entry-plausible plausible taking take-on part put-part waiting-part end-of run.made delivered cards-right step-on state-after answers-of fresh-replicas sizes-right run-on ledger-of ledger-reading
+unfolding all-good holds-good scenarios listing overtaking not-yet sum-of put sum bits incremented cleared has insert join names-after tally any latest beyond applied sent made next-item rest-items handed count-item holds clear-names after-accepted after-step after-steps ledger-value ledger-holders count-message present-entries clear-message read-value read-holders cleared-words taken-words shown number-at bytes-of header-bytes increment-bytes entry-bytes entries-bytes clear-bytes message-bytes header-in-range increment-in-range clear-in-range entry-in-range entries-in-range unused in-range increment-message entries-at called-length message-at reads front-length form.clear-message fresh-words sizes-in-range right all-below count-below entry-well-formed card-well-formed row-well-formed reading read-on calls.sent sending count-on clear-on content all-entries cards-known increment-implausible entry-plausible plausible taking take-on part put-part waiting-part end-of run.made delivered cards-right step-on state-after answers-of fresh-replicas sizes-right run-on ledger-of ledger-reading
 scenarios-hold = refl

@@ -7,7 +7,7 @@ use mathlib.Core.List.{List, [], _∷_, _++_}
 use native.Mathlib.Omega.{arith}
 use lib.ListN.{length}
 use borrow.Author.Tests.{lt-ltb, le-ltb, le-leb, lt-leb, eq-eqb, ne-eqb}
-use Rattle.protocol.specs.Limits.{MAX, no-such-counter, no-more-messages, output-too-short}
+use Rattle.protocol.specs.Limits.{MAX, bad-counter, exhausted, short-output}
 use Rattle.protocol.specs.Cases.{by-place, by-le}
 use Rattle.protocol.specs.Tables.{put}
 use Rattle.protocol.specs.declared.Entry.{Entry}
@@ -15,21 +15,21 @@ use Rattle.protocol.specs.declared.ClearEntry.{ClearEntry}
 use Rattle.protocol.specs.Entry.{present}
 use Rattle.protocol.specs.Chassis.{Message, Replica, Chassis, count-message, present-entries, clear-message, issued}
 use Rattle.protocol.specs.Ledger.{Ledger}
-use Rattle.protocol.specs.Stores.{Shows, CardsBelow, count-shown, clear-shown}
+use Rattle.protocol.specs.StoreLaws.{Shows, CardsBelow, count-shown, clear-shown}
 use Rattle.wire.specs.declared.Message as wire
 use Rattle.wire.specs.Message.{message-bytes, message-length, over}
 use Rattle.wire.specs.Claims.{message-bytes-length}
 use Rattle.replica_model.specs.Layout.{cards, counters, own-card, N-of}
-use Rattle.replica_model.specs.Store.{layout}
+use Rattle.replica_model.specs.LayoutLaws.{layout}
 use Rattle.replica_model.specs.Calls.{state, on-wire, count-on, clear-on, SendOutcome, not-sent, sent, sending}
-use Rattle.replica_model.specs.Terms.{Right, RowOf, holders, Writable}
+use Rattle.replica_model.specs.ClaimTerms.{Right, RowOf, holders, Writable}
 use Rattle.replica_model.specs.RowLaws.{right-from, row-from}
 use Rattle.replica_model.specs.Senders.{Sending, count-writable, clear-writable}
 use Rattle.chassis_model.specs.Answers.{message-size}
 use Rattle.chassis_model.specs.LogLaws.{Readable}
 use Rattle.chassis_model.specs.Numbered.{Sendable}
-use Rattle.chassis_model.specs.InStep.{Heads, Alike, InStep, reached-right, reached-row, reached-N, made-all}
-use Rattle.chassis_model.specs.Moves.{words-after, issued-alike}
+use Rattle.chassis_model.specs.InStep.{Heads, CardsShow, InStep, reached-right, reached-row, reached-N, made-all}
+use Rattle.chassis_model.specs.Moves.{words-after, issued-cards-show}
 use Rattle.chassis_model.specs.Reads.{holders-counted}
 
 -- count or clear, of counter q
@@ -90,14 +90,14 @@ sent-outcome r i b out m =
     let x = on-wire i (N-of r b i + 1) m in
     record { answer = record { number = 0; sequence = x .sequence; length = message-length x }; words = words-after i m b; out = over (message-bytes x) out }
 
-none-such : (b : List ℕ) (q : ℕ) (out : List ℕ) (next : SendOutcome) → Right b → counters b ≤ q → sending b q out next ≡ not-sent no-such-counter b out
+none-such : (b : List ℕ) (q : ℕ) (out : List ℕ) (next : SendOutcome) → Right b → counters b ≤ q → sending b q out next ≡ not-sent bad-counter b out
 unfolding sending
 none-such b q out next f l = rw (right-from b f, le-ltb q (counters b) l)
 
 send-cases : (P : SendOutcome → Type 0) (b : List ℕ) (q : ℕ) (out : List ℕ) (m : Message) → Right b → q < counters b → RowOf b q
     → let N = N-of (cards b) b (own-card b) in
     let size = message-length (on-wire (own-card b) (N + 1) m) in
-    (N ≡ MAX → P (not-sent no-more-messages b out)) → (N < MAX → length out < size → P (not-sent output-too-short b out))
+    (N ≡ MAX → P (not-sent exhausted b out)) → (N < MAX → length out < size → P (not-sent short-output b out))
     → (N < MAX → size ≤ length out → P (sent-outcome (cards b) (own-card b) b out m))
     → P (sending b q out (sent b out m))
 unfolding sending sent words-after
@@ -127,13 +127,13 @@ module _ (r k : ℕ) (replicas : ℕ → List ℕ) (ch : Chassis) (ls : ℕ → 
       → call-of counts q (replicas i) out ≡ sending (replicas i) q out (sent (replicas i) out (message-of counts r i q (ch .replica i)))
   call-sends hq out =
       call-is counts q (replicas i) out
-      ∙ rw (message-shown counts r k i q (replicas i) (ch .replica i) (h .alike .heads i hi) (h .alike .shows i hi) hi hq)
+      ∙ rw (message-shown counts r k i q (replicas i) (ch .replica i) (h .cards-show .heads i hi) (h .cards-show .shows i hi) hi hq)
 
   writable : q < k → N-of r (replicas i) i < MAX
       → Writable (on-wire i (N-of r (replicas i) i + 1) (message-of counts r i q (ch .replica i))) (size-of counts (replicas i) q)
   writable hq few =
-      let on = h .alike .heads i hi in
-      let is = message-shown counts r k i q (replicas i) (ch .replica i) on (h .alike .shows i hi) hi hq in
+      let on = h .cards-show .heads i hi in
+      let is = message-shown counts r k i q (replicas i) (ch .replica i) on (h .cards-show .shows i hi) hi hq in
       let x : wire.Message = on-wire i (N-of r (replicas i) i + 1) (message-of counts r i q (ch .replica i)) in
       let same : on-wire (own-card (replicas i)) (N-of (cards (replicas i)) (replicas i) (own-card (replicas i)) + 1)
       (message-of counts (cards (replicas i)) (own-card (replicas i)) q (state (replicas i))) ≡ x
@@ -154,15 +154,15 @@ module _ (r k : ℕ) (replicas : ℕ → List ℕ) (ch : Chassis) (ls : ℕ → 
 
   -- one of four things comes of the call
   pub call-cases : (P : SendOutcome → Type 0) (out : List ℕ)
-      → (k ≤ q → P (not-sent no-such-counter (replicas i) out))
-      → (q < k → N-of r (replicas i) i ≡ MAX → P (not-sent no-more-messages (replicas i) out))
-      → (q < k → N-of r (replicas i) i < MAX → length out < next-size r replicas ch counts i q → P (not-sent output-too-short (replicas i) out))
+      → (k ≤ q → P (not-sent bad-counter (replicas i) out))
+      → (q < k → N-of r (replicas i) i ≡ MAX → P (not-sent exhausted (replicas i) out))
+      → (q < k → N-of r (replicas i) i < MAX → length out < next-size r replicas ch counts i q → P (not-sent short-output (replicas i) out))
       → (q < k → N-of r (replicas i) i < MAX → next-size r replicas ch counts i q ≤ length out
       → P (sent-outcome r i (replicas i) out (next-message r ch counts i q)))
       → P (call-of counts q (replicas i) out)
   call-cases P out three four five sends =
       let b = replicas i in
-      let on = h .alike .heads i hi in
+      let on = h .cards-show .heads i hi in
       let right = reached-right r k replicas ch ls h i hi in
       by-le (suc q) k
       (λ hq.
@@ -185,7 +185,7 @@ size-is r k replicas ch ls h false i q hi hq few =
 
 pub issued-here : (r k : ℕ) (replicas : ℕ → List ℕ) (ch : Chassis) (ls : ℕ → Ledger) → InStep r k replicas ch ls → (i : ℕ) → i < r → (m : Message)
     → Sendable r k m → N-of r (replicas i) i < MAX → Readable (on-wire i (N-of r (replicas i) i + 1) m)
-    → Alike r k (put i (words-after i m (replicas i)) replicas) (issued i m ch)
+    → CardsShow r k (put i (words-after i m (replicas i)) replicas) (issued i m ch)
 issued-here r k replicas ch ls h i hi m sends few good =
     let N = reached-N r k replicas ch ls h i i hi hi in
-    issued-alike r k replicas ch (h .sizes) (h .alike) i m hi sends (made-all r k replicas ch ls h i) (rw N at few) (rw N at good)
+    issued-cards-show r k replicas ch (h .sizes) (h .cards-show) i m hi sends (made-all r k replicas ch ls h i) (rw N at few) (rw N at good)

@@ -1,4 +1,4 @@
--- LAWS. The waiting message by its place: what stands there is the waiting part, and it ends inside the log. Assumes nothing.
+-- LAWS. The waiting message by its place: what stands there is the waiting part, and it ends inside the log.
 use Prim.Native.Nat.{ℕ, zero, suc, _+_, _-_, _≤_}
 use mathlib.Core.Path.{_≡_, refl, sym, ap, _∙_}
 use mathlib.Core.List.{List, []}

@@ -1,5 +1,5 @@
 -- LAWS. Steps as bytes and as records, one way and back: the bytes of a list of steps are read as that list, and bytes of whole steps are written again as
--- they stand. Assumes nothing.
+-- they stand.
 use Prim.Native.Nat.{ℕ, zero, suc, _+_, _*_, _/_, _%_, _≤_}
 use mathlib.Core.Path.{_≡_, refl, ap, ap₂, _∙_}
 use mathlib.Core.List.{List, [], _∷_, _++_}
@@ -8,7 +8,7 @@ use native.Mathlib.Omega.{arith}
 use lib.ListN.{length, take, drop, length-append}
 use lib.Seq.{take-all}
 use Rattle.wire.specs.Number.{number-at, bytes-of}
-use Rattle.wire.specs.Lists.{parts-join}
+use Rattle.wire.specs.StoredLists.{parts-join}
 use Rattle.wire.specs.NumberLaws.{Bytes, number-at-below, length-bytes-of, number-at-right, number-at-bytes-of, bytes-of-number-at}
 use Rattle.chassis_model.specs.Run.{Step, run-on, step-bytes, steps-bytes, StepFits, AllFit, step-at, steps-at, steps-of, run-bytes-on}
 use Rattle.chassis_model.specs.RunLaws.{whole-steps}

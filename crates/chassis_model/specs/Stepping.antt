@@ -5,13 +5,13 @@ use mathlib.Core.Path.{_≡_, refl, sym, subst}
 use mathlib.Core.Bool.{true, false}
 use lib.ListN.{length}
 use Rattle.protocol.specs.Cases.{by-place}
-use Rattle.protocol.specs.Ledger.{Ledger, fed}
+use Rattle.protocol.specs.Ledger.{Ledger, after-step}
 use Rattle.protocol.specs.Chassis.{Chassis, done, enabled, accepted, stepped}
 use Rattle.replica_model.specs.Layout.{replica-length}
 use Rattle.chassis_model.specs.Run.{Step, State, Stepped, replica-of, log-of, count-kind, clear-kind, deliver-kind}
 use Rattle.chassis_model.specs.Ledger.{ledger-step, was-accepted}
 use Rattle.chassis_model.specs.Numbered.{wire-log}
-use Rattle.chassis_model.specs.InStep.{Alike}
+use Rattle.chassis_model.specs.InStep.{CardsShow}
 use Rattle.chassis_model.specs.Offers.{offer}
 use Rattle.chassis_model.specs.Matches.{Holds, Matches}
 use Rattle.chassis_model.specs.Moves.{done-after, accepted-in-step}
@@ -19,24 +19,24 @@ use Rattle.chassis_model.specs.Moves.{done-after, accepted-in-step}
 -- what a step leaves, beside the chassis and the ledgers after it; and the theory accepts the step exactly if the run did
 abbrev pub StepMatches : ℕ → ℕ → ℕ → Step → Chassis → (ℕ → Ledger) → Stepped → Type 0
 StepMatches r k L s ch ls z =
-    Matches r k L (z .state) (stepped r (offer (ledger-step s) (z .answer)) ch) (λ q. fed r q (ledger-step s) (was-accepted (z .answer)) (ls q))
+    Matches r k L (z .state) (stepped r (offer (ledger-step s) (z .answer)) ch) (λ q. after-step r q (ledger-step s) (was-accepted (z .answer)) (ls q))
     × (accepted r (offer (ledger-step s) (z .answer)) ch ≡ was-accepted (z .answer))
 
 module _ (r k L : ℕ) (s : Step) (st : State) (ch : Chassis) (ls : ℕ → Ledger) (h : Matches r k L st ch ls) where
   pub declined-matches : (answer : ℕ) → was-accepted answer ≡ false → StepMatches r k L s ch ls (record { answer = answer; state = st })
-  unfolding stepped fed
+  unfolding stepped after-step
   declined-matches answer e = rw e (h, refl)
 
   pub accepted-matches : (st′ : State) → enabled r (ledger-step s) ch ≡ true
       → length (st′ .words) ≡ r * replica-length r k → length (st′ .logs) ≡ r * L
-      → Alike r k (replica-of r k L st′) (done r (ledger-step s) ch)
+      → CardsShow r k (replica-of r k L st′) (done r (ledger-step s) ch)
       → ((j : ℕ) → j < r → Holds (log-of r k L st′ j) (wire-log j (done r (ledger-step s) ch .log j)))
       → StepMatches r k L s ch ls (record { answer = 0; state = st′ })
-  accepted-matches st′ on words logs alike holds = (
+  accepted-matches st′ on words logs cards-show holds = (
     record {
       words-fit = words;
       logs-fit = logs;
-      cards = accepted-in-step r k (replica-of r k L st) ch ls (h .cards) (ledger-step s) on (replica-of r k L st′) alike;
+      cards = accepted-in-step r k (replica-of r k L st) ch ls (h .cards) (ledger-step s) on (replica-of r k L st′) cards-show;
       holds = λ j l. rw (done-after r k (replica-of r k L st) ch ls (h .cards) (ledger-step s) on) (holds j l);
     },
     on,

@@ -5,7 +5,7 @@ use mathlib.Core.Bool.{Bool, true}
 use mathlib.Core.List.{List, [], _∷_, _++_, map}
 use lib.ListN.{length, getD}
 use Rattle.protocol.specs.Ledger as ledger
-use Rattle.protocol.specs.Ledger.{Ledger, empty-ledger, kept}
+use Rattle.protocol.specs.Ledger.{Ledger, empty-ledger, after-steps}
 use Rattle.protocol.specs.Chassis as protocol
 use Rattle.protocol.specs.Chassis.{Chassis, fresh-chassis, Offer, run}
 use Rattle.protocol.specs.Runs.{step-of}
@@ -13,12 +13,12 @@ use Rattle.replica_model.specs.Layout.{replica-length, N-of}
 use Rattle.replica_model.specs.Calls.{read-on}
 use Rattle.replica_model.specs.RowLaws.{sizes}
 use Rattle.replica_model.specs.RowLaws.{tests}
-use Rattle.chassis_model.specs.Parts.{part}
+use Rattle.chassis_model.specs.ListParts.{part}
 use Rattle.chassis_model.specs.Run.{Step, State, replica-of, step-on, state-after, answers-of, sizes-right, run-on, steps-of, run-bytes-on}
 use Rattle.chassis_model.specs.Ledger.{ledger-step, was-accepted, ledger-of, ledger-reading}
 use Rattle.chassis_model.specs.Answers.{fresh-state, due-answer, run-answer}
 use Rattle.chassis_model.specs.Matches.{Sizes, Matches}
-use Rattle.chassis_model.specs.Fresh.{fresh-matches}
+use Rattle.chassis_model.specs.FreshRun.{fresh-matches}
 use Rattle.chassis_model.specs.Steps.{step-matches}
 use Rattle.chassis_model.specs.Offers.{offers-of, TheoryRun}
 use Rattle.chassis_model.specs.TheoryReads.{reading-is}
@@ -28,7 +28,7 @@ use Rattle.chassis_model.specs.AnswerLaws.{step-answer, answer-at, due-i
 
 -- the ledgers after a list of steps
 abbrev pub ledgers-after : ℕ → ℕ → ℕ → List Step → State → (ℕ → Ledger) → ℕ → Ledger
-ledgers-after r k L ss st ls q = kept r q (map ledger-step ss) (map was-accepted (answers-of r k L ss st)) (ls q)
+ledgers-after r k L ss st ls q = after-steps r q (map ledger-step ss) (map was-accepted (answers-of r k L ss st)) (ls q)
 
 -- the list as the theory has it, from a state on
 abbrev pub run-offers : ℕ → ℕ → ℕ → List Step → State → List Offer
@@ -42,7 +42,7 @@ offers-steps r k L (s ∷ ss) st = ap {B = List ledger.Step} (λ xs. ledger-step
 pub run-matches : (r k L : ℕ) (ss : List Step) (st : State) (ch : Chassis) (ls : ℕ → Ledger) → Matches r k L st ch ls
     → Matches r k L (state-after r k L ss st) (run r (run-offers r k L ss st) ch) (ledgers-after r k L ss st ls)
     × (protocol.answers r (run-offers r k L ss st) ch ≡ map was-accepted (answers-of r k L ss st))
-unfolding state-after answers-of offers-of kept run protocol.answers
+unfolding state-after answers-of offers-of after-steps run protocol.answers
 run-matches r k L [] st ch ls h = (h, refl)
 run-matches r k L (s ∷ ss) st ch ls h =
     let here = step-matches r k L st ch ls h s in

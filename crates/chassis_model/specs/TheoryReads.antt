@@ -37,20 +37,20 @@ module _ (r k : ℕ) (steps : List Step) (numbers : List ℕ) (replicas : ℕ �
   pub value-read : (i q : ℕ) → i < r → q < k → read-on (replicas i) q .value ≡ read-value r q (after-run r offers .replica i)
   unfolding ledger-reading
   value-read i q hi hq =
-      ap (λ (a : Reading). a .value) (reading-is i q hi hq) ∙ sym (value-is r q (after-run r offers) (ledgers-told r steps numbers q) (t .cards .oks q) i)
+      ap (λ (a : Reading). a .value) (reading-is i q hi hq) ∙ sym (value-is r q (after-run r offers) (ledgers-told r steps numbers q) (t .cards .invariants q) i)
 
   -- ---- Algorithm 1
 
   instances-are : (i : ℕ) → algorithm-1-of r steps numbers .replica i ≡ instances-of (after-run r offers .replica i)
   unfolding algorithm-1-of
   instances-are i =
-      ap (λ (x : System). x .replica i) (told r k steps numbers replicas t (λ ss fs. paper.kept r ss fs initial)) ∙ after-same r offers .replicas i
+      ap (λ (x : System). x .replica i) (told r k steps numbers replicas t (λ ss fs. paper.after-steps r ss fs initial)) ∙ after-same r offers .replicas i
 
   pub C-is : (i j : ℕ) → i < r → j < r → C-of (replicas i) j ≡ algorithm-1-of r steps numbers .replica i .C j
-  C-is i j hi hj = rw (ap (λ (x : Instances). x .C j) (instances-are i)) (t .cards .alike .shows i hi .Cs j hj)
+  C-is i j hi hj = rw (ap (λ (x : Instances). x .C j) (instances-are i)) (t .cards .cards-show .shows i hi .Cs j hj)
 
   pub M-is : (i j q : ℕ) → i < r → j < r → q < k → slot-of (entry-of r (replicas i) q j) ≡ algorithm-1-of r steps numbers .replica i .M q j
-  M-is i j q hi hj hq = rw (ap (λ (x : Instances). x .M q j) (instances-are i)) (ap slot-of (t .cards .alike .shows i hi .entries q j hq hj))
+  M-is i j q hi hj hq = rw (ap (λ (x : Instances). x .M q j) (instances-are i)) (ap slot-of (t .cards .cards-show .shows i hi .entries q j hq hj))
 
   pub algorithm-1-value : (i q : ℕ) → i < r → q < k → read-on (replicas i) q .value ≡ value r (instance q (algorithm-1-of r steps numbers .replica i))
   algorithm-1-value i q hi hq = rw (instances-are i) (value-read i q hi hq ∙ sym (value-agrees r q (after-run r offers .replica i)))

@@ -5,13 +5,13 @@ use mathlib.Core.List.{List, [], _∷_, _++_}
 use Rattle.protocol.specs.Tables.{put, sum, bits}
 use Rattle.protocol.specs.Entry.{incremented, cleared}
 use Rattle.protocol.specs.Chassis.{count-message, present-entries, clear-message, read-value, read-holders}
-use Rattle.protocol.specs.Stores.{cleared-words, taken-words, shown}
+use Rattle.protocol.specs.StoreLaws.{cleared-words, taken-words, shown}
 use Rattle.wire.specs.Number.{number-at, bytes-of}
 use Rattle.wire.specs.Message as form
 use Rattle.wire.specs.Message.{header-bytes, increment-bytes, entry-bytes, entries-bytes, clear-bytes, message-bytes, header-in-range, increment-in-range, clear-in-range, entry-in-range, entries-in-range, unused, in-range, increment-message, entries-at, called-length, message-at, reads, front-length}
 use Rattle.replica_model.specs.Layout.{fresh-words}
 use Rattle.replica_model.specs.Calls.{sizes-in-range, right, all-below, count-below, entry-well-formed, card-well-formed, row-well-formed, reading, read-on, sent, sending, count-on, clear-on, content, all-entries, cards-known, increment-implausible, entry-plausible, plausible, taking, take-on}
-use Rattle.chassis_model.specs.Parts.{part, put-part}
+use Rattle.chassis_model.specs.ListParts.{part, put-part}
 use Rattle.chassis_model.specs.Log.{waiting-part, end-of}
 use Rattle.chassis_model.specs.Run.{made, delivered, cards-right, step-on, state-after, answers-of, fresh-replicas, sizes-right, run-on, steps-at, run-bytes-on}
 use Rattle.listing.specs.Listing.{header, refused-11, digits, decimal, line, card-lines, lines, words-after, input-right, listing-of}
@@ -21,12 +21,12 @@ unfolding digits
 decimals = (refl, refl, refl)
 
 -- "0,0,2,1,0"
-pub first-line : line 0 0 (record { number = 0; value = 2; holders = 1; count = 1 }) ≡ 48 ∷ 44 ∷ 48 ∷ 44 ∷ 50 ∷ 44 ∷ 49 ∷ 44 ∷ 48 ∷ 13 ∷ 10 ∷ []
+pub first-line : line 0 0 (record { number = 0; value = 2; holders = 1; «holder_count» = 1 }) ≡ 48 ∷ 44 ∷ 48 ∷ 44 ∷ 50 ∷ 44 ∷ 49 ∷ 44 ∷ 48 ∷ 13 ∷ 10 ∷ []
 unfolding line digits
 first-line = refl
 
 -- "1,0,0,0,1"
-pub second-line : line 1 0 (record { number = 0; value = 0; holders = 0; count = 0 }) ≡ 49 ∷ 44 ∷ 48 ∷ 44 ∷ 48 ∷ 44 ∷ 48 ∷ 44 ∷ 49 ∷ 13 ∷ 10 ∷ []
+pub second-line : line 1 0 (record { number = 0; value = 0; holders = 0; «holder_count» = 0 }) ≡ 49 ∷ 44 ∷ 48 ∷ 44 ∷ 48 ∷ 44 ∷ 48 ∷ 44 ∷ 49 ∷ 13 ∷ 10 ∷ []
 unfolding line digits
 second-line = refl
 

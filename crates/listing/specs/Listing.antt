@@ -8,7 +8,7 @@ use Rattle.wire.specs.Number.{int-at}
 use Rattle.replica_model.specs.Layout.{replica-length}
 use Rattle.replica_model.specs.Calls.{check, read-on}
 use Rattle.replica_model.specs.declared.Reading.{Reading}
-use Rattle.chassis_model.specs.Parts.{part}
+use Rattle.chassis_model.specs.ListParts.{part}
 use Rattle.chassis_model.specs.Run.{run-bytes-on}
 
 -- "RFC 4180 with CRLF"
@@ -59,21 +59,21 @@ lines r k words zero = []
 lines r k words (suc n) = lines r k words n ++ card-lines n (part (replica-length r k) words n) k
 
 -- "r <= 4, k <= 8, at most 256 steps, L = 4,096"
-abbrev pub most-cards : ℕ
-most-cards = 4
+abbrev pub most-listed-cards : ℕ
+most-listed-cards = 4
 
-abbrev pub most-counters : ℕ
-most-counters = 8
+abbrev pub most-listed-counters : ℕ
+most-listed-counters = 8
 
-abbrev pub most-steps : ℕ
-most-steps = 256
+abbrev pub most-listed-steps : ℕ
+most-listed-steps = 256
 
 abbrev pub log-bytes : ℕ
 log-bytes = 4096
 
 -- the bytes of the largest right input, r and k and 256 steps, and one more, by which a longer one is known
 abbrev pub input-bytes : ℕ
-input-bytes = 8 + 12 * most-steps + 1
+input-bytes = 8 + 12 * most-listed-steps + 1
 
 -- the run's words: every replica begins fresh, so what they held before does not matter
 unfoldable pub words-after : ℕ → ℕ → List ℕ → List ℕ
@@ -84,9 +84,9 @@ words-after r k steps =
 unfoldable pub input-right : List ℕ → Bool
 input-right input =
     leb 8 (length input)
-    && leb 1 (int-at input 0) && leb (int-at input 0) most-cards
-    && leb 1 (int-at input 4) && leb (int-at input 4) most-counters
-    && eqb (length (drop 8 input) % 12) 0 && leb (length (drop 8 input)) (12 * most-steps)
+    && leb 1 (int-at input 0) && leb (int-at input 0) most-listed-cards
+    && leb 1 (int-at input 4) && leb (int-at input 4) most-listed-counters
+    && eqb (length (drop 8 input) % 12) 0 && leb (length (drop 8 input)) (12 * most-listed-steps)
 
 unfoldable pub listing-of : List ℕ → List ℕ
 listing-of input =

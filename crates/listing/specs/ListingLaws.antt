@@ -1,5 +1,5 @@
 -- LAWS. The parts of a line, the sizes of a right input, the words of a run that begins with zeros, which bytes decide a listing, and a listing stored at the
--- front. Assumes nothing.
+-- front.
 use Prim.Native.Nat.{ℕ, zero, suc, _+_, _-_, _*_, _/_, _%_, _≤_}
 use mathlib.Core.Path.{_≡_, refl, sym, ap, _∙_}
 use mathlib.Core.List.{List, _∷_, _++_, append-assoc}
@@ -13,7 +13,7 @@ use lib.Seq.{length-sets, take-length, take-all, length-take-le}
 use Rattle.protocol.specs.Cases.{by-le, and-left, and-right, not-yes}
 use Rattle.wire.specs.Number.{int-at}
 use Rattle.wire.specs.Message.{over}
-use Rattle.wire.specs.Lists.{sets-front}
+use Rattle.wire.specs.StoredLists.{sets-front}
 use Rattle.replica_model.specs.declared.Reading.{Reading}
 use Rattle.replica_model.specs.Layout.{replica-length}
 use Rattle.chassis_model.specs.Run.{RunOutcome, run-bytes-on}
@@ -117,6 +117,6 @@ pub put-front : {most behind : ℕ} {out bytes after : List ℕ} → Put most ou
 put-front {most} {behind} {out} {bytes} {after} put room =
     let long : behind ≡ length bytes = omega (arith, put .next) in
     let fits : length bytes ≤ length out = omega (arith, put .short) in
-    let kept : length after ≡ length out = ap length (put .stored) ∙ length-sets out 0 bytes in
+    let after-steps : length after ≡ length out = ap length (put .stored) ∙ length-sets out 0 bytes in
     let inside : behind ≤ length after = omega arith in
     ((put .stored ∙ sets-front bytes out fits, long), (inside, sym (length-take-le behind after inside)))

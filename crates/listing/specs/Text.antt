@@ -4,7 +4,7 @@ use mathlib.Core.Path.{_≡_}
 use mathlib.Core.List.{List, [], _∷_, _++_}
 use lib.ListN.{length}
 use lib.Seq.{sets}
-use Rattle.listing.specs.Listing.{digits, most-cards, most-counters, most-steps}
+use Rattle.listing.specs.Listing.{digits, most-listed-cards, most-listed-counters, most-listed-steps}
 
 -- the most bytes of a number, a number with its comma, a line (four of these, a number and the line end), the lines of a card's eight counters,
 -- and a listing (the header's 34 bytes and the lines of four cards)
@@ -40,6 +40,6 @@ pub record Put (most : ℕ) (before : List ℕ) (at : ℕ) (bytes after : List �
 
 -- the sizes that a right input has at most
 pub record Sized (r k : ℕ) (steps : List ℕ) : Type 0 where
-  pub cards : r ≤ most-cards
-  pub counters : k ≤ most-counters
-  pub few : length steps ≤ 12 * most-steps
+  pub cards : r ≤ most-listed-cards
+  pub counters : k ≤ most-listed-counters
+  pub few : length steps ≤ 12 * most-listed-steps

@@ -1,4 +1,4 @@
--- LAWS. Text stored in stretches side by side, and the decimal digits of a number. Assumes nothing.
+-- LAWS. Text stored in stretches side by side, and the decimal digits of a number.
 use Prim.Native.Nat.{ℕ, zero, suc, _+_, _-_, _*_, _/_, _%_, _^_, _≤_, _<_}
 use mathlib.Core.Path.{_≡_, refl, sym, ap, _∙_}
 use mathlib.Core.List.{List, [], _∷_, _++_}
@@ -10,7 +10,7 @@ use lib.Dec.{lit<}
 use lib.ListN.{length, getD, set, take, length-append}
 use lib.Seq.{sets, take-suc, length-take-le}
 use Rattle.protocol.specs.Cases.{by-le}
-use Rattle.wire.specs.Lists.{sets-append, sets-set}
+use Rattle.wire.specs.StoredLists.{sets-append, sets-set}
 use Rattle.listing.specs.Listing.{digits}
 use Rattle.listing.specs.Text.{number-bytes, fixed, digit-count, Put}
 

@@ -9,7 +9,7 @@ ghost use lib.Dec.{eqb};
 ghost use lib.ListN.{length};
 ghost use Rattle.replica_model.specs.Layout.{replica-length};
 ghost use Rattle.replica_model.specs.Calls.{read-on};
-ghost use Rattle.chassis_model.specs.Parts.{part};
+ghost use Rattle.chassis_model.specs.ListParts.{part};
 ghost use Rattle.listing.specs.Listing.{line, card-lines, lines};
 ghost use Rattle.listing.specs.Text.{line-bytes, card-bytes, Put};
 

@@ -14,11 +14,11 @@ ghost use Rattle.listing.specs.Listing.{header, lines, words-after, inpu
 ghost use Rattle.listing.specs.Text.{listing-bytes, Put, Sized};
 
 // "r <= 4, k <= 8, at most 256 steps, L = 4,096"
-const MOST_CARDS: usize = 4;
+const MOST_LISTED_CARDS: usize = 4;
 
-const MOST_COUNTERS: usize = 8;
+const MOST_LISTED_COUNTERS: usize = 8;
 
-const MOST_STEPS: usize = 256;
+const MOST_LISTED_STEPS: usize = 256;
 
 const LOG_BYTES: usize = 4096;
 
@@ -33,7 +33,7 @@ const STEP_BYTES: usize = 12;
 const MOST_WORDS: usize = 428;
 
 // The largest input that is right, and one byte more, by which a larger one is known: these decide the listing (claim `first-bytes-decide`).
-pub const INPUT_BYTES: usize = STEPS_AT + STEP_BYTES * MOST_STEPS + 1;
+pub const INPUT_BYTES: usize = STEPS_AT + STEP_BYTES * MOST_LISTED_STEPS + 1;
 
 // Enough for every listing: the header's 34 bytes and 32 lines of at most 106 (five numbers of at most twenty digits, four commas, the line end)
 // are 3,426.
@@ -53,11 +53,11 @@ fn is_right(input: &[u8]) -> bool
     let counters = number::read_u32(input, COUNTERS_AT) as usize;
     let steps = input.len() - STEPS_AT;
     (1 <= cards)
-        & (cards <= MOST_CARDS)
+        & (cards <= MOST_LISTED_CARDS)
         & (1 <= counters)
-        & (counters <= MOST_COUNTERS)
+        & (counters <= MOST_LISTED_COUNTERS)
         & (steps % STEP_BYTES == 0)
-        & (steps <= STEP_BYTES * MOST_STEPS)
+        & (steps <= STEP_BYTES * MOST_LISTED_STEPS)
 }
 
 // The run's words. Its logs and answers are not listed.
@@ -65,8 +65,8 @@ fn run_steps(cards: usize, counters: usize, size: usize, steps: &[u8], words: &m
     requires { ⌜ Sized cards counters (now steps) × (size ≡ replica-length cards counters) × (now words ≡ replicate {A = ℕ} (cards * size) 0) ⌝ }
     ensures { λ _. ⌜ now (words .exit) ≡ words-after cards counters (now (steps .entry)) ⌝ }
 {
-    let mut logs: [u8; MOST_CARDS * LOG_BYTES] = [0; MOST_CARDS * LOG_BYTES];
-    let mut answers: [u64; MOST_STEPS] = [0; MOST_STEPS];
+    let mut logs: [u8; MOST_LISTED_CARDS * LOG_BYTES] = [0; MOST_LISTED_CARDS * LOG_BYTES];
+    let mut answers: [u64; MOST_LISTED_STEPS] = [0; MOST_LISTED_STEPS];
     let log_end = cards * LOG_BYTES;
     let count = steps.len() / STEP_BYTES;
     run::run(

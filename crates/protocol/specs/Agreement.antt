@@ -19,7 +19,7 @@ use Rattle.protocol.specs.Chassis.{Chassis, read-value, read-holders}
 use Rattle.protocol.specs.Chain.{mark-at}
 use Rattle.protocol.specs.Pairs.{chain-ordered}
 use Rattle.protocol.specs.Makers.{holds-is}
-use Rattle.protocol.specs.Steps.{Ok, items, waiting}
+use Rattle.protocol.specs.InvariantSteps.{Invariant, items, waiting}
 use Rattle.protocol.specs.Links.{outside-N}
 use Rattle.protocol.specs.Refusals.{received-within}
 use Rattle.protocol.specs.Arrivals.{Arrivals, lacks, equal-cancelled}
@@ -41,7 +41,7 @@ pub record ReadAlike (r q i j : ℕ) (st : Chassis) (l : Ledger) : Type 0 where
   pub holders : read-holders r q (st .replica i) ≡ read-holders r q (st .replica j)
   pub holding : (o : ℕ) → holds i o l ≡ holds j o l
 
-module _ (r q : ℕ) (st : Chassis) (l : Ledger) (k : Ok r q st l) where
+module _ (r q : ℕ) (st : Chassis) (l : Ledger) (k : Invariant r q st l) where
   -- what a card lacks is what its maker has made behind those that the card has received
   lacks-is : (i s : ℕ) → lacks i s l ≡ waiting q s (k .notes s) (st .replica i .N s)
   unfolding items

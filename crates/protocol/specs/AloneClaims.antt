@@ -5,12 +5,12 @@ use mathlib.Core.Path.{_≡_, sym, ap, _∙_}
 use mathlib.Core.Bool.{Bool}
 use mathlib.Core.List.{List, _++_, map}
 use Rattle.protocol.specs.Entry.{present}
-use Rattle.protocol.specs.Ledger.{Step, empty-ledger, kept}
+use Rattle.protocol.specs.Ledger.{Step, empty-ledger, after-steps}
 use Rattle.protocol.specs.Chassis.{Message, fresh-chassis, Offer, answers, read-value, read-holders}
 use Rattle.protocol.specs.Runs.{step-of, after-run, all-accepted}
 use Rattle.protocol.specs.Theorem.{ledger-theorem}
 use Rattle.protocol.specs.Alone.{no-turns, own-steps, alone, accepted-of, messages-of, outline, room}
-use Rattle.protocol.specs.AloneLedgers.{beside-empty, own-kept, own-same, same-value, same-holders}
+use Rattle.protocol.specs.AloneLedgers.{beside-empty, own-after-steps, own-same, same-value, same-holders}
 use Rattle.protocol.specs.AloneTurns.{alone-is-accepted, accepted-append}
 use Rattle.protocol.specs.AloneRuns.{own-run, fresh-beside, same-present, same-read-value, same-read-holders, room-within}
 
@@ -29,11 +29,11 @@ alone-append r q os os′ =
 -- whichever steps were accepted.
 pub ledger-alone {ℓ} : {A : Type ℓ} (step : A → Step) (r q i : ℕ) (xs : List A) (flags : List Bool)
     → let own = own-steps step q xs flags no-turns in
-    let l = kept r q (map step xs) flags empty-ledger in
-    let l′ = kept r q (map step own) (all-accepted own) empty-ledger in
+    let l = after-steps r q (map step xs) flags empty-ledger in
+    let l′ = after-steps r q (map step own) (all-accepted own) empty-ledger in
     (l′ .received i ≡ l .received i) × (l′ .cancelled i ≡ l .cancelled i)
 ledger-alone step r q i xs flags =
-    let h = own-kept step r q xs flags no-turns empty-ledger empty-ledger (beside-empty q) in (h .received i, h .cancelled i)
+    let h = own-after-steps step r q xs flags no-turns empty-ledger empty-ledger (beside-empty q) in (h .received i, h .cancelled i)
 
 -- WHOLE ISOLATION. A run of q's own steps alone accepts every one of them, and every card reads of q what it reads after the whole list.
 pub whole-isolation : (r q : ℕ) (os : List Offer)

@@ -8,7 +8,7 @@ use lib.Dec.{eqb}
 use Rattle.protocol.specs.Cases.{by-place, by-test}
 use Rattle.protocol.specs.Tables.{put, put-same, put-other, put-at, put-same-row, put-other-row}
 use Rattle.protocol.specs.Names.{Name, join}
-use Rattle.protocol.specs.Ledger.{Step, count, clear, deliver, Item, nothing, Ledger, count-item, clear-names, clear-item, next-item, rest-items, some-item, applied, handed, sent, made, entered, fed, kept, empty-ledger}
+use Rattle.protocol.specs.Ledger.{Step, count, clear, deliver, Item, nothing, Ledger, count-item, clear-names, clear-item, next-item, rest-items, some-item, applied, handed, sent, made, after-accepted, after-step, after-steps, empty-ledger}
 use Rattle.protocol.specs.Alone.{Turns, no-turns, turned, turn-of, belongs-by-turns, own-steps}
 use Rattle.protocol.specs.Runs.{all-accepted}
 use Rattle.protocol.specs.LedgerLaws.{same-sets, none-applied}
@@ -205,41 +205,41 @@ module _ (q : ℕ) (turns : Turns) (l l′ : Ledger) (h : Beside q turns l l′)
 -- ---- an accepted step, and a list of steps
 
 module _ (r q : ℕ) (turns : Turns) (l l′ : Ledger) (h : Beside q turns l l′) where
-  pub own-entered : (s : Step) → belongs-by-turns q s turns ≡ true → Beside q (turned s turns) (entered r q s l) (entered r q s l′)
-  unfolding belongs-by-turns turned entered
-  own-entered (count i k w) e = rw (e, same-count l l′ (h .sets) q i w) (own-made q turns l l′ h i k (count-item q i w l) e)
-  own-entered (clear i k) e = rw (e, same-clear l l′ (h .sets) r q i) (own-made q turns l l′ h i k (clear-item r q i l) e)
-  own-entered (deliver i s) e = own-handed q turns l l′ h i s e
+  pub own-after-accepted : (s : Step) → belongs-by-turns q s turns ≡ true → Beside q (turned s turns) (after-accepted r q s l) (after-accepted r q s l′)
+  unfolding belongs-by-turns turned after-accepted
+  own-after-accepted (count i k w) e = rw (e, same-count l l′ (h .sets) q i w) (own-made q turns l l′ h i k (count-item q i w l) e)
+  own-after-accepted (clear i k) e = rw (e, same-clear l l′ (h .sets) r q i) (own-made q turns l l′ h i k (clear-item r q i l) e)
+  own-after-accepted (deliver i s) e = own-handed q turns l l′ h i s e
 
-  pub other-entered : (s : Step) → belongs-by-turns q s turns ≡ false → Beside q (turned s turns) (entered r q s l) l′
-  unfolding belongs-by-turns turned entered
-  other-entered (count i k w) e = rw e (other-made q turns l l′ h i k (nothing k) e refl)
-  other-entered (clear i k) e = rw e (other-made q turns l l′ h i k (nothing k) e refl)
-  other-entered (deliver i s) e = other-handed q turns l l′ h i s e
+  pub other-after-accepted : (s : Step) → belongs-by-turns q s turns ≡ false → Beside q (turned s turns) (after-accepted r q s l) l′
+  unfolding belongs-by-turns turned after-accepted
+  other-after-accepted (count i k w) e = rw e (other-made q turns l l′ h i k (nothing k) e refl)
+  other-after-accepted (clear i k) e = rw e (other-made q turns l l′ h i k (nothing k) e refl)
+  other-after-accepted (deliver i s) e = other-handed q turns l l′ h i s e
 
 -- The ledger of q, told any flags, and the one that is fed q's own steps, all of them accepted.
-pub own-kept {ℓ} : {A : Type ℓ} (step : A → Step) (r q : ℕ) (xs : List A) (fs : List Bool) (turns : Turns) (l l′ : Ledger) → Beside q turns l l′
-    → let own = own-steps step q xs fs turns in SameSets (kept r q (map step xs) fs l) (kept r q (map step own) (all-accepted own) l′)
-unfolding own-steps kept fed
-own-kept step r q [] fs turns l l′ h = h .sets
-own-kept step r q (x ∷ xs) [] turns l l′ h = h .sets
-own-kept step r q (x ∷ xs) (false ∷ fs) turns l l′ h = own-kept step r q xs fs turns l l′ h
-own-kept step r q (x ∷ xs) (true ∷ fs) turns l l′ h =
+pub own-after-steps {ℓ} : {A : Type ℓ} (step : A → Step) (r q : ℕ) (xs : List A) (fs : List Bool) (turns : Turns) (l l′ : Ledger) → Beside q turns l l′
+    → let own = own-steps step q xs fs turns in SameSets (after-steps r q (map step xs) fs l) (after-steps r q (map step own) (all-accepted own) l′)
+unfolding own-steps after-steps after-step
+own-after-steps step r q [] fs turns l l′ h = h .sets
+own-after-steps step r q (x ∷ xs) [] turns l l′ h = h .sets
+own-after-steps step r q (x ∷ xs) (false ∷ fs) turns l l′ h = own-after-steps step r q xs fs turns l l′ h
+own-after-steps step r q (x ∷ xs) (true ∷ fs) turns l l′ h =
     by-test (belongs-by-turns q (step x) turns)
-    (λ e. rw e (own-kept step r q xs fs (turned (step x) turns) (entered r q (step x) l) (entered r q (step x) l′) (own-entered r q turns l l′ h (step x) e)))
-    (λ e. rw e (own-kept step r q xs fs (turned (step x) turns) (entered r q (step x) l) l′ (other-entered r q turns l l′ h (step x) e)))
+    (λ e. rw e (own-after-steps step r q xs fs (turned (step x) turns) (after-accepted r q (step x) l) (after-accepted r q (step x) l′) (own-after-accepted r q turns l l′ h (step x) e)))
+    (λ e. rw e (own-after-steps step r q xs fs (turned (step x) turns) (after-accepted r q (step x) l) l′ (other-after-accepted r q turns l l′ h (step x) e)))
 
 -- Two ledgers of q that were fed lists with the same own steps of q, whatever else is in them.
 pub own-same {ℓ ℓ′} : {A : Type ℓ} {B : Type ℓ′} (step : A → Step) (step′ : B → Step) (r q : ℕ) (xs : List A) (ys : List B) (fs gs : List Bool)
     → map step (own-steps step q xs fs no-turns) ≡ map step′ (own-steps step′ q ys gs no-turns)
-    → SameSets (kept r q (map step xs) fs empty-ledger) (kept r q (map step′ ys) gs empty-ledger)
+    → SameSets (after-steps r q (map step xs) fs empty-ledger) (after-steps r q (map step′ ys) gs empty-ledger)
 own-same step step′ r q xs ys fs gs e =
     let own = own-steps step q xs fs no-turns in
     let own′ = own-steps step′ q ys gs no-turns in
-    let a = own-kept step r q xs fs no-turns empty-ledger empty-ledger (beside-empty q) in
-    let b = own-kept step′ r q ys gs no-turns empty-ledger empty-ledger (beside-empty q) in
+    let a = own-after-steps step r q xs fs no-turns empty-ledger empty-ledger (beside-empty q) in
+    let b = own-after-steps step′ r q ys gs no-turns empty-ledger empty-ledger (beside-empty q) in
     let flags : all-accepted own ≡ all-accepted own′ = sym (map-map (λ s. true) step own) ∙ ap all-accepted e ∙ map-map (λ s. true) step′ own′ in
-    let same = ap₂ (λ (ss : List Step) (hs : List Bool). kept r q ss hs empty-ledger) e flags in
+    let same = ap₂ (λ (ss : List Step) (hs : List Bool). after-steps r q ss hs empty-ledger) e flags in
     record {
       received = λ i. sym (b .received i) ∙ ap (λ (l : Ledger). l .received i) (sym same) ∙ a .received i;
       cancelled = λ i. sym (b .cancelled i) ∙ ap (λ (l : Ledger). l .cancelled i) (sym same) ∙ a .cancelled i;

@@ -11,15 +11,15 @@ use borrow.Author.Tests.{eqb-true}
 use Rattle.protocol.specs.Cases.{by-place, by-test, and-yes, and-left, and-right}
 use Rattle.protocol.specs.Tables.{put, put-other, put-at, sum-cong, bits}
 use Rattle.protocol.specs.Entry.{Entry, present}
-use Rattle.protocol.specs.Ledger.{Step, count, clear, deliver, Ledger, empty-ledger, link-waits, entered}
+use Rattle.protocol.specs.Ledger.{Step, count, clear, deliver, Ledger, empty-ledger, link-waits, after-accepted}
 use Rattle.protocol.specs.Chassis.{Message, increment, clearing, Replica, count-message, present-entries, clear-message, read-value, read-holders, Chassis, fresh-chassis, issued, delivered, done, enabled, Offer, accepted, stepped, run, answers, counter-of}
 use Rattle.protocol.specs.Makers.{holds-is}
-use Rattle.protocol.specs.Steps.{Ok}
-use Rattle.protocol.specs.Theorem.{fresh-ok, value-is, count-counter, clear-counter, done-ok}
+use Rattle.protocol.specs.InvariantSteps.{Invariant}
+use Rattle.protocol.specs.Theorem.{fresh-invariant, value-is, count-counter, clear-counter, done-invariant}
 use Rattle.protocol.specs.Links.{deliver-enabled-is}
 use Rattle.protocol.specs.Runs.{step-of, all-accepted}
 use Rattle.protocol.specs.Alone.{Turns, no-turns, turned, turn-of, belongs-by-turns, own-steps, messages-of, outline, entry-outline, room}
-use Rattle.protocol.specs.AloneLedgers.{Beside, beside-empty, same-holds, same-value, own-waits, own-entered, other-entered}
+use Rattle.protocol.specs.AloneLedgers.{Beside, beside-empty, same-holds, same-value, own-waits, own-after-accepted, other-after-accepted}
 
 -- ---- messages
 
@@ -60,8 +60,8 @@ module _ (q : ℕ) (b b′ : Replica) (h : (j : ℕ) → present (b′ .entry q 
 -- ---- two runs
 
 pub record RunsBeside (r q : ℕ) (turns : Turns) (st : Chassis) (l : Ledger) (st′ : Chassis) (l′ : Ledger) : Type 0 where
-  pub ok : Ok r q st l
-  pub ok′ : Ok r q st′ l′
+  pub ok : Invariant r q st l
+  pub ok′ : Invariant r q st′ l′
   pub ledgers : Beside q turns l l′
   pub logs : (i : ℕ) → map outline (st′ .log i) ≡ map outline (messages-of q (st .log i))
 
@@ -136,19 +136,19 @@ module _ (r q : ℕ) (turns : Turns) (st : Chassis) (l : Ledger) (st′ : Chassi
 
   -- an accepted step
   pub own-done : (s : Step) → belongs-by-turns q s turns ≡ true → enabled r s st ≡ true
-      → RunsBeside r q (turned s turns) (done r s st) (entered r q s l) (done r s st′) (entered r q s l′)
+      → RunsBeside r q (turned s turns) (done r s st) (after-accepted r q s l) (done r s st′) (after-accepted r q s l′)
   own-done s e on = record {
-    ok = done-ok r q st l (h .ok) s on;
-    ok′ = done-ok r q st′ l′ (h .ok′) s (own-enabled s e on);
-    ledgers = own-entered r q turns l l′ (h .ledgers) s e;
+    ok = done-invariant r q st l (h .ok) s on;
+    ok′ = done-invariant r q st′ l′ (h .ok′) s (own-enabled s e on);
+    ledgers = own-after-accepted r q turns l l′ (h .ledgers) s e;
     logs = logs-done s e;
   }
 
-  pub other-done : (s : Step) → belongs-by-turns q s turns ≡ false → enabled r s st ≡ true → RunsBeside r q (turned s turns) (done r s st) (entered r q s l) st′ l′
+  pub other-done : (s : Step) → belongs-by-turns q s turns ≡ false → enabled r s st ≡ true → RunsBeside r q (turned s turns) (done r s st) (after-accepted r q s l) st′ l′
   other-done s e on = record {
-    ok = done-ok r q st l (h .ok) s on;
+    ok = done-invariant r q st l (h .ok) s on;
     ok′ = h .ok′;
-    ledgers = other-entered r q turns l l′ (h .ledgers) s e;
+    ledgers = other-after-accepted r q turns l l′ (h .ledgers) s e;
     logs = logs-left s e;
   }
 
@@ -208,7 +208,7 @@ own-run r q (o ∷ os) = own-step r q o os (own-run r q os)
 
 pub fresh-beside : (r q : ℕ) → RunsBeside r q no-turns fresh-chassis empty-ledger fresh-chassis empty-ledger
 unfolding messages-of
-fresh-beside r q = record { ok = fresh-ok r q; ok′ = fresh-ok r q; ledgers = beside-empty q; logs = λ i. refl }
+fresh-beside r q = record { ok = fresh-invariant r q; ok′ = fresh-invariant r q; ledgers = beside-empty q; logs = λ i. refl }
 
 -- ---- the room that logs take
 

@@ -11,8 +11,8 @@ use Rattle.protocol.specs.Cases.{by-place, by-test, and-right}
 use Rattle.protocol.specs.Tables.{put, put-same, put-other, put-same-row, put-other-row}
 use Rattle.protocol.specs.Ledger.{Step, count, clear, deliver, Item, Ledger, empty-ledger, turn-is, belongs}
 use Rattle.protocol.specs.Chassis.{Message, no-message, count-message, clear-message, Chassis, fresh-chassis, issued, delivered, done, enabled, Offer, accepted, stepped, run, answers, counter-of}
-use Rattle.protocol.specs.Steps.{Ok, taken-N}
-use Rattle.protocol.specs.Theorem.{fresh-ok, step-ok}
+use Rattle.protocol.specs.InvariantSteps.{Invariant, taken-N}
+use Rattle.protocol.specs.Theorem.{fresh-invariant, step-invariant}
 use Rattle.protocol.specs.Links.{own-N-is, link-counters}
 use Rattle.protocol.specs.Refusals.{received-within}
 use Rattle.protocol.specs.Runs.{step-of}
@@ -22,7 +22,7 @@ use Rattle.protocol.specs.Enabled.{deliver-enabled}
 abbrev pub TurnsAre : Turns → Chassis → Type 0
 TurnsAre turns st = (s i : ℕ) → (i ≡ s → ⊥) → turns s i ≡ map counter-of (drop (st .replica i .N s) (st .log s))
 
-module _ (r q : ℕ) (st : Chassis) (l : Ledger) (ok : Ok r q st l) (turns : Turns) (k : TurnsAre turns st) where
+module _ (r q : ℕ) (st : Chassis) (l : Ledger) (ok : Invariant r q st l) (turns : Turns) (k : TurnsAre turns st) where
   some-made : (i s : ℕ) → st .replica i .N s ≤ length (st .log s)
   some-made i s = rw (← (own-N-is r q st l ok s)) (received-within r q st l ok i s .1)
 
@@ -95,7 +95,7 @@ unfolding turn-is turn-of
 turn-is-of q [] = refl
 turn-is-of q (it ∷ its) = refl
 
-pub belongs-to : (r q : ℕ) (st : Chassis) (l : Ledger) → Ok r q st l → (s : Step) → enabled r s st ≡ true → belongs q s l ≡ eqb (step-counter s st) q
+pub belongs-to : (r q : ℕ) (st : Chassis) (l : Ledger) → Invariant r q st l → (s : Step) → enabled r s st ≡ true → belongs q s l ≡ eqb (step-counter s st) q
 unfolding belongs belongs-by-turns
 belongs-to r q st l ok s on = by-its-turns s ∙ belongs-is r q st l ok (ledger-turns l) (λ o i d. link-counters r q st l ok i o d) s on
   where
@@ -106,16 +106,16 @@ belongs-to r q st l ok s on = by-its-turns s ∙ belongs-is r q st l ok (ledger-
 
 -- ---- a list of steps
 
-own-are : (r q : ℕ) (os : List Offer) (st : Chassis) (l : Ledger) → Ok r q st l → (turns : Turns) → TurnsAre turns st
+own-are : (r q : ℕ) (os : List Offer) (st : Chassis) (l : Ledger) → Invariant r q st l → (turns : Turns) → TurnsAre turns st
     → own-steps step-of q os (answers r os st) turns ≡ accepted-of r q os st
 unfolding own-steps answers accepted-of
 own-are r q [] st l ok turns k = refl
 own-are r q (o ∷ os) st l ok turns k =
     ap₂ (λ (t : Bool) (rest : List Offer). cond t (o ∷ []) [] ++ rest) (own-is r q st l ok turns k o)
-    (own-are r q os (stepped r o st) _ (step-ok r q o st l ok) _ (stepped-turns r q st l ok turns k o))
+    (own-are r q os (stepped r o st) _ (step-invariant r q o st l ok) _ (stepped-turns r q st l ok turns k o))
 
 pub alone-is-accepted : (r q : ℕ) (os : List Offer) → alone r q os ≡ accepted-of r q os fresh-chassis
-alone-is-accepted r q os = own-are r q os fresh-chassis empty-ledger (fresh-ok r q) no-turns (λ s i d. refl)
+alone-is-accepted r q os = own-are r q os fresh-chassis empty-ledger (fresh-invariant r q) no-turns (λ s i d. refl)
 
 pub accepted-append : (r q : ℕ) (os os′ : List Offer) (st : Chassis) → accepted-of r q (os ++ os′) st ≡ accepted-of r q os st ++ accepted-of r q os′ (run r os st)
 unfolding accepted-of run

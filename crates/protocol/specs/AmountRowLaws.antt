@@ -13,7 +13,7 @@ use Rattle.protocol.specs.Chassis.{Message, increment, clearing, no-mess
 use Rattle.protocol.specs.Marks.{Mark}
 use Rattle.protocol.specs.Pairs.{on-chain-at}
 use Rattle.protocol.specs.Rows as rows
-use Rattle.protocol.specs.Steps.{Ok, taken-N}
+use Rattle.protocol.specs.InvariantSteps.{Invariant, taken-N}
 use Rattle.protocol.specs.InARowLaws.{taken-C}
 use Rattle.protocol.specs.Chain.{no-note, wire, mark-at, mark-suc}
 use Rattle.protocol.specs.Refusals.{after-units, within-own, received-within, row-well-formed, own-row-well-formed, run-plausible}
@@ -29,7 +29,7 @@ pub record OwnWithin (most : ℕ) (st : Chassis) : Type 0 where
 
 -- ---- rows, from the invariant
 
-pub rows-well-formed : (r q most : ℕ) (st : Chassis) (l : Ledger) → Ok r q st l → OwnWithin most st → (i : ℕ) → WellFormedRow most i q (st .replica i)
+pub rows-well-formed : (r q most : ℕ) (st : Chassis) (l : Ledger) → Invariant r q st l → OwnWithin most st → (i : ℕ) → WellFormedRow most i q (st .replica i)
 rows-well-formed r q most st l k own i = record {
   C≤most = λ j. let a = own .C≤ j in let b = received-within r q st l k i j .0 in omega arith;
   N≤most = λ j. let a = own .N≤ j in let b = received-within r q st l k i j .1 in omega arith;
@@ -83,7 +83,7 @@ after-within most r os h = run-within most r os fresh-chassis h (fresh-within mo
 -- ---- what waits
 
 -- once the message that waits is taken, the receiver has no more units of the sender than the sender has made
-pub waiting-within : (r q : ℕ) (st : Chassis) (l : Ledger) → Ok r q st l → (i s : ℕ) → st .replica i .N s < st .replica s .N s
+pub waiting-within : (r q : ℕ) (st : Chassis) (l : Ledger) → Invariant r q st l → (i s : ℕ) → st .replica i .N s < st .replica s .N s
     → st .replica i .C s + units-of (getD (st .log s) (st .replica i .N s) no-message) ≤ st .replica s .C s
 waiting-within r q st l k i s waits =
     let n = st .replica i .N s in

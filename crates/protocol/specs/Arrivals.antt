@@ -11,9 +11,9 @@ use Rattle.protocol.specs.Cases.{by-place, or-left, or-right, or-cases}
 use Rattle.protocol.specs.Lists.{append-cancel}
 use Rattle.protocol.specs.Tables.{put, put-same, put-other, put-at, put-same-row, put-other-row}
 use Rattle.protocol.specs.Names.{Name, has, join}
-use Rattle.protocol.specs.Ledger.{Step, count, clear, deliver, Item, Ledger, empty-ledger, next-item, rest-items, applied, handed, sent, made, entered, kept}
+use Rattle.protocol.specs.Ledger.{Step, count, clear, deliver, Item, Ledger, empty-ledger, next-item, rest-items, applied, handed, sent, made, after-accepted, after-steps}
 use Rattle.protocol.specs.Joins.{from-join, has-join-left, has-join-right}
-use Rattle.protocol.specs.LedgerLaws.{kept-keeps}
+use Rattle.protocol.specs.LedgerLaws.{after-steps-keeps}
 
 -- ---- what items cancel
 
@@ -171,14 +171,14 @@ handed-arrivals i s l h = record {
 
 -- ---- every ledger that was fed
 
-entered-arrivals : (r q : ℕ) (s : Step) (l : Ledger) → Arrivals l → Arrivals (entered r q s l)
-unfolding entered
-entered-arrivals r q (count i k w) l h = made-arrivals i _ l h
-entered-arrivals r q (clear i k) l h = made-arrivals i _ l h
-entered-arrivals r q (deliver i s) l h = handed-arrivals i s l h
+after-accepted-arrivals : (r q : ℕ) (s : Step) (l : Ledger) → Arrivals l → Arrivals (after-accepted r q s l)
+unfolding after-accepted
+after-accepted-arrivals r q (count i k w) l h = made-arrivals i _ l h
+after-accepted-arrivals r q (clear i k) l h = made-arrivals i _ l h
+after-accepted-arrivals r q (deliver i s) l h = handed-arrivals i s l h
 
-pub kept-arrivals : (r q : ℕ) (ss : List Step) (fs : List Bool) → Arrivals (kept r q ss fs empty-ledger)
-kept-arrivals r q ss fs = kept-keeps r q Arrivals (entered-arrivals r q) ss fs empty-ledger no-arrivals
+pub after-steps-arrivals : (r q : ℕ) (ss : List Step) (fs : List Bool) → Arrivals (after-steps r q ss fs empty-ledger)
+after-steps-arrivals r q ss fs = after-steps-keeps r q Arrivals (after-accepted-arrivals r q) ss fs empty-ledger no-arrivals
 
 -- ---- cards that lack the same items
 

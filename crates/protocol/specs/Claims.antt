@@ -16,7 +16,7 @@ use Rattle.protocol.specs.Runs.{after-run, ledger-after, AmountsOne}
 use Rattle.protocol.specs.Algorithm1.{value, inc-generator, inc-effector, reset-generator, reset-effector, state-of, message-of, SomeUnits}
 use Rattle.protocol.specs.Theorem as theorem
 use Rattle.protocol.specs.Links.{deliver-enabled-is}
-use Rattle.protocol.specs.Arrivals.{kept-arrivals}
+use Rattle.protocol.specs.Arrivals.{after-steps-arrivals}
 use Rattle.protocol.specs.Agreement.{same-received-agree}
 use Rattle.protocol.specs.Refusals as refusals
 use Rattle.protocol.specs.Algorithm1Laws.{value-agrees, inc-message-agrees, reset-message-agrees, inc-effector-agrees, inc-effector-C, reset-effector-agrees, reset-effector-C}
@@ -33,7 +33,7 @@ pub same-messages-same-reads : (r q i j : ℕ) (os : List Offer)
     → (read-value r q (after-run r os .replica i) ≡ read-value r q (after-run r os .replica j))
     × (read-holders r q (after-run r os .replica i) ≡ read-holders r q (after-run r os .replica j))
 same-messages-same-reads r q i j os same =
-    let a = same-received-agree r q (after-run r os) (ledger-after r q os) (theorem.run-invariant r q os) (kept-arrivals r q _ _) i j same in (a .value, a .holders)
+    let a = same-received-agree r q (after-run r os) (ledger-after r q os) (theorem.run-invariant r q os) (after-steps-arrivals r q _ _) i j same in (a .value, a .holders)
 
 -- A delivery is enabled exactly when both cards are there, they are two, and the ledger's link has something to hand over.
 pub deliver-enabled : (r q i s : ℕ) (os : List Offer)

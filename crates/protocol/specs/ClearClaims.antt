@@ -7,7 +7,7 @@ use mathlib.Core.Bool.{true, false, _||_}
 use mathlib.Core.List.{List, _++_}
 use Rattle.protocol.specs.Cases.{not-yes}
 use Rattle.protocol.specs.Names.{Name, has}
-use Rattle.protocol.specs.Ledger.{clear, clear-names, entered, ledger-value}
+use Rattle.protocol.specs.Ledger.{clear, clear-names, after-accepted, ledger-value}
 use Rattle.protocol.specs.Chassis.{Offer}
 use Rattle.protocol.specs.Runs.{after-run, ledger-after}
 use Rattle.protocol.specs.Theorem.{run-invariant}
@@ -29,7 +29,7 @@ unseen-is-untouched r q i os n received unseen = not-yes (has (ledger-after r q 
 -- and no other card's sets move until the message comes.
 pub clear-cancels-seen : (r q i : ℕ) (os : List Offer)
     → let l = ledger-after r q os in
-    let l′ = entered r q (clear i q) l in
+    let l′ = after-accepted r q (clear i q) l in
     ((n : Name) → has (clear-names r i l) n ≡ true → has (l .received i) n || has (l .cancelled i) n ≡ true)
     × ((n : Name) → has (l′ .cancelled i) n ≡ has (l .cancelled i) n || has (l .received i) n)
     × (l′ .received i ≡ l .received i)

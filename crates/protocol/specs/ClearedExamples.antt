@@ -9,7 +9,7 @@ use Rattle.protocol.specs.Cases.{and-right}
 use Rattle.protocol.specs.Tables.{put}
 use Rattle.protocol.specs.Entry.{incremented, cleared}
 use Rattle.protocol.specs.Names.{name, has, insert, join, names-after, tally, any, latest, beyond}
-use Rattle.protocol.specs.Ledger.{Step, count, clear, deliver, applied, sent, made, next-item, rest-items, handed, count-item, holds, clear-names, entered, fed, kept, ledger-value}
+use Rattle.protocol.specs.Ledger.{Step, count, clear, deliver, applied, sent, made, next-item, rest-items, handed, count-item, holds, clear-names, after-accepted, after-step, after-steps, ledger-value}
 use Rattle.protocol.specs.Chassis.{Offer, cleared-row, taken, count-message, present-entries, clear-message, issued, delivered, done, enabled, stepped, run, answers}
 use Rattle.protocol.specs.Runs.{after-run, ledger-after}
 use Rattle.protocol.specs.Cleared.{ClearedBySeer}
@@ -31,11 +31,11 @@ pub unseen-stays :
     × (has (l .cancelled 1) (name 0 2) ≡ false)
     × (ledger-value 0 l ≡ 1)
     × (ledger-value 1 l ≡ 1)
-unfolding put has insert join names-after tally any latest beyond applied sent made next-item rest-items handed count-item holds clear-names entered fed kept ledger-value incremented cleared cleared-row taken count-message present-entries clear-message issued delivered done enabled stepped run answers
+unfolding put has insert join names-after tally any latest beyond applied sent made next-item rest-items handed count-item holds clear-names after-accepted after-step after-steps ledger-value incremented cleared cleared-row taken count-message present-entries clear-message issued delivered done enabled stepped run answers
 unseen-stays = (refl, refl, refl, refl, refl, refl)
 
 pub first-was-cleared : ClearedBySeer 2 0 listing (name 0 1)
-unfolding put has insert join names-after latest beyond any applied sent made next-item handed count-item entered fed kept incremented taken count-message issued delivered done enabled stepped run answers
+unfolding put has insert join names-after latest beyond any applied sent made next-item handed count-item after-accepted after-step after-steps incremented taken count-message issued delivered done enabled stepped run answers
 first-was-cleared = record {
   before = map offered (count 0 0 1 ∷ deliver 1 0 ∷ []);
   offer = offered (clear 1 0);
@@ -49,7 +49,7 @@ first-was-cleared = record {
 
 -- the second by none: it would be cancelled on the card that cleared
 nowhere : (i : ℕ) → i < 2 → has (ledger-after 2 0 listing .cancelled i) (name 0 2) ≡ false
-unfolding put has insert join names-after any latest beyond applied sent made next-item rest-items handed count-item holds clear-names entered fed kept incremented cleared cleared-row taken count-message present-entries clear-message issued delivered done enabled stepped run answers
+unfolding put has insert join names-after any latest beyond applied sent made next-item rest-items handed count-item holds clear-names after-accepted after-step after-steps incremented cleared cleared-row taken count-message present-entries clear-message issued delivered done enabled stepped run answers
 nowhere zero below = refl
 nowhere (suc zero) below = refl
 nowhere (suc (suc i)) below = absurd (omega arith)
@@ -74,5 +74,5 @@ pub cleared-stays-away :
     × (has (l′ .received 2) (name 0 1) ≡ true)
     × (has (l′ .cancelled 2) (name 0 1) ≡ true)
     × (ledger-value 2 l′ ≡ 0)
-unfolding put has insert join names-after tally any latest beyond applied sent made next-item rest-items handed count-item holds clear-names entered fed kept ledger-value incremented cleared cleared-row taken count-message present-entries clear-message issued delivered done enabled stepped run answers
+unfolding put has insert join names-after tally any latest beyond applied sent made next-item rest-items handed count-item holds clear-names after-accepted after-step after-steps ledger-value incremented cleared cleared-row taken count-message present-entries clear-message issued delivered done enabled stepped run answers
 cleared-stays-away = (refl, refl, refl, refl, refl, refl)

@@ -13,20 +13,20 @@ use Rattle.protocol.specs.Tables.{put, put-same, put-other, put-cases}
 use Rattle.protocol.specs.Names.{Name, has, join, names-up-to, latest, beyond}
 use Rattle.protocol.specs.NameLaws.{tally-none}
 use Rattle.protocol.specs.Joins.{has-none, has-join, from-join, names-after-only}
-use Rattle.protocol.specs.Ledger.{Step, count, clear, deliver, Item, Ledger, empty-ledger, count-item, holds, clear-names, next-item, rest-items, applied, sent, made, handed, entered, fed, kept, ledger-value}
+use Rattle.protocol.specs.Ledger.{Step, count, clear, deliver, Item, Ledger, empty-ledger, count-item, holds, clear-names, next-item, rest-items, applied, sent, made, handed, after-accepted, after-step, after-steps, ledger-value}
 use Rattle.protocol.specs.Chassis.{Chassis, fresh-chassis, Offer, accepted, stepped, run, answers}
 use Rattle.protocol.specs.Runs.{step-of, after-run, ledger-after}
-use Rattle.protocol.specs.LedgerLaws.{kept-grows}
-use Rattle.protocol.specs.RunLaws.{kept-append}
-use Rattle.protocol.specs.Steps.{Ok}
-use Rattle.protocol.specs.Theorem.{fresh-ok, step-ok, run-invariant}
+use Rattle.protocol.specs.LedgerLaws.{after-steps-grows}
+use Rattle.protocol.specs.RunsLaws.{after-steps-append}
+use Rattle.protocol.specs.InvariantSteps.{Invariant}
+use Rattle.protocol.specs.Theorem.{fresh-invariant, step-invariant, run-invariant}
 use Rattle.protocol.specs.Collects.{received-latest, cancelled-latest, none-beyond, none-held, received-outside}
 use Rattle.protocol.specs.Causality.{clear-names-only, clear-names-all}
 use Rattle.protocol.specs.Cleared.{ClearedBySeer}
 
 -- ---- what a card's message cancels
 
-module _ (r q : ℕ) (st : Chassis) (l : Ledger) (ok : Ok r q st l) (i : ℕ) where
+module _ (r q : ℕ) (st : Chassis) (l : Ledger) (ok : Invariant r q st l) (i : ℕ) where
   -- a set holds a card's names up to its latest
   is-received : (n : Name) → 0 < n .ordinal → n .ordinal ≤ latest (n .card) (l .received i) → has (l .received i) n ≡ true
   is-received n a b = let e = received-latest r q st l ok i (n .card) in ok .cards i .received-is .all (n .card) (n .ordinal) a (omega arith)
@@ -122,46 +122,46 @@ module _ (Q : Name → Type 0) where
 
   -- ---- a step, and a list of steps: Q has what a card had received that clears q
 
-  entered-in : (r q : ℕ) (st : Chassis) (l : Ledger) → Ok r q st l → CancelsIn Q l → (s : Step) → ((i : ℕ) → s ≡ clear i q → NamesIn Q (l .received i))
-      → CancelsIn Q (entered r q s l)
-  unfolding entered count-item
-  entered-in r q st l ok k (count i c w) h =
+  after-accepted-in : (r q : ℕ) (st : Chassis) (l : Ledger) → Invariant r q st l → CancelsIn Q l → (s : Step) → ((i : ℕ) → s ≡ clear i q → NamesIn Q (l .received i))
+      → CancelsIn Q (after-accepted r q s l)
+  unfolding after-accepted count-item
+  after-accepted-in r q st l ok k (count i c w) h =
       by-test (eqb c q)
       (λ e. rw e (made-in l k i _ (λ n m. k .cancelled i n (start-cancelled r q st l ok i n m))))
       (λ e. rw e (made-in l k i _ (λ n m. has-none n m)))
-  entered-in r q st l ok k (clear i c) h =
+  after-accepted-in r q st l ok k (clear i c) h =
       by-place c q
       (λ e. rw (eq-eqb c q e)
       (made-in l k i _ (λ n m. cleared-seen r q st l ok i n m (h i (ap (clear i) e) n) (k .cancelled i n))))
       (λ d. rw (ne-eqb c q d) (made-in l k i _ (λ n m. has-none n m)))
-  entered-in r q st l ok k (deliver i s) h = handed-in l k i s
+  after-accepted-in r q st l ok k (deliver i s) h = handed-in l k i s
 
-  fed-in : (r q : ℕ) (o : Offer) (st : Chassis) (l : Ledger) → Ok r q st l → CancelsIn Q l
-      → ((i : ℕ) → o .step ≡ clear i q → accepted r o st ≡ true → NamesIn Q (l .received i)) → CancelsIn Q (fed r q (o .step) (accepted r o st) l)
-  unfolding fed
-  fed-in r q o st l ok k h =
-      by-test (accepted r o st) (λ a. rw a (entered-in r q st l ok k (o .step) (λ i e. h i e a))) (λ a. rw a k)
+  after-step-in : (r q : ℕ) (o : Offer) (st : Chassis) (l : Ledger) → Invariant r q st l → CancelsIn Q l
+      → ((i : ℕ) → o .step ≡ clear i q → accepted r o st ≡ true → NamesIn Q (l .received i)) → CancelsIn Q (after-step r q (o .step) (accepted r o st) l)
+  unfolding after-step
+  after-step-in r q o st l ok k h =
+      by-test (accepted r o st) (λ a. rw a (after-accepted-in r q st l ok k (o .step) (λ i e. h i e a))) (λ a. rw a k)
 
-  kept-in : (r q : ℕ) (os : List Offer) (st : Chassis) (l : Ledger) → Ok r q st l → CancelsIn Q l
+  after-steps-in : (r q : ℕ) (os : List Offer) (st : Chassis) (l : Ledger) → Invariant r q st l → CancelsIn Q l
       → ((before : List Offer) (o : Offer) (later : List Offer) (i : ℕ) → os ≡ before ++ o ∷ later → o .step ≡ clear i q
-      → accepted r o (run r before st) ≡ true → NamesIn Q (kept r q (map step-of before) (answers r before st) l .received i))
-      → CancelsIn Q (kept r q (map step-of os) (answers r os st) l)
-  unfolding run answers kept
-  kept-in r q [] st l ok k h = k
-  kept-in r q (o ∷ os) st l ok k h =
-      kept-in r q os (stepped r o st) (fed r q (o .step) (accepted r o st) l) (step-ok r q o st l ok)
-      (fed-in r q o st l ok k (λ i e a. h [] o os i refl e a)) (λ before o′ later i e. h (o ∷ before) o′ later i (ap (λ os′. o ∷ os′) e))
+      → accepted r o (run r before st) ≡ true → NamesIn Q (after-steps r q (map step-of before) (answers r before st) l .received i))
+      → CancelsIn Q (after-steps r q (map step-of os) (answers r os st) l)
+  unfolding run answers after-steps
+  after-steps-in r q [] st l ok k h = k
+  after-steps-in r q (o ∷ os) st l ok k h =
+      after-steps-in r q os (stepped r o st) (after-step r q (o .step) (accepted r o st) l) (step-invariant r q o st l ok)
+      (after-step-in r q o st l ok k (λ i e a. h [] o os i refl e a)) (λ before o′ later i e. h (o ∷ before) o′ later i (ap (λ os′. o ∷ os′) e))
 
 pub was-cleared : (r q i : ℕ) (os : List Offer) (n : Name) → has (ledger-after r q os .cancelled i) n ≡ true → ClearedBySeer r q os n
 was-cleared r q i os =
-    kept-in (ClearedBySeer r q os) r q os fresh-chassis empty-ledger (fresh-ok r q) (record { cancelled = λ i n h. has-none n h; under-way = λ s i. tt })
+    after-steps-in (ClearedBySeer r q os) r q os fresh-chassis empty-ledger (fresh-invariant r q) (record { cancelled = λ i n h. has-none n h; under-way = λ s i. tt })
     (λ before o later j e c a n h.
     record { before = before; offer = o; later = later; card = j; in-list = e; is-clear = c; was-accepted = a; had-received = h })
     .cancelled i
 
 -- ---- what a clear leaves
 
-module _ (r q : ℕ) (st : Chassis) (l : Ledger) (ok : Ok r q st l) (i : ℕ) where
+module _ (r q : ℕ) (st : Chassis) (l : Ledger) (ok : Invariant r q st l) (i : ℕ) where
   cleared-sets : (n : Name) → has (clear-names r i l) n || has (l .cancelled i) n ≡ has (l .cancelled i) n || has (l .received i) n
   cleared-sets n =
       by-test (has (l .cancelled i) n)
@@ -173,26 +173,26 @@ module _ (r q : ℕ) (st : Chassis) (l : Ledger) (ok : Ok r q st l) (i : ℕ) wh
   pub clear-message-seen : (n : Name) → has (clear-names r i l) n ≡ true → has (l .received i) n || has (l .cancelled i) n ≡ true
   clear-message-seen n h = cleared-seen r q st l ok i n h (or-left (has (l .received i) n) (has (l .cancelled i) n)) (or-right (has (l .received i) n) (has (l .cancelled i) n))
 
-  pub clear-cancelled : (n : Name) → has (entered r q (clear i q) l .cancelled i) n ≡ has (l .cancelled i) n || has (l .received i) n
-  unfolding entered made sent applied
+  pub clear-cancelled : (n : Name) → has (after-accepted r q (clear i q) l .cancelled i) n ≡ has (l .cancelled i) n || has (l .received i) n
+  unfolding after-accepted made sent applied
   clear-cancelled n =
       rw (eq-eqb q q refl, put-same i (join (clear-names r i l) (l .cancelled i)) (l .cancelled), has-join (clear-names r i l) (l .cancelled i) n)
       (cleared-sets n)
 
-  pub clear-received : entered r q (clear i q) l .received i ≡ l .received i
-  unfolding entered made sent applied join
+  pub clear-received : after-accepted r q (clear i q) l .received i ≡ l .received i
+  unfolding after-accepted made sent applied join
   clear-received = rw (eq-eqb q q refl) (put-same i (l .received i) (l .received))
 
-  pub clear-value : ledger-value i (entered r q (clear i q) l) ≡ 0
+  pub clear-value : ledger-value i (after-accepted r q (clear i q) l) ≡ 0
   unfolding ledger-value
   clear-value =
       rw clear-received
-      (tally-none (λ n. not (has (entered r q (clear i q) l .cancelled i) n)) (l .received i)
+      (tally-none (λ n. not (has (after-accepted r q (clear i q) l .cancelled i) n)) (l .received i)
       (λ n h. rw (clear-cancelled n, or-right (has (l .cancelled i) n) (has (l .received i) n) h)))
 
   pub clear-others : (j : ℕ) → (j ≡ i → ⊥)
-      → (entered r q (clear i q) l .received j ≡ l .received j) × (entered r q (clear i q) l .cancelled j ≡ l .cancelled j)
-  unfolding entered made sent applied
+      → (after-accepted r q (clear i q) l .received j ≡ l .received j) × (after-accepted r q (clear i q) l .cancelled j ≡ l .cancelled j)
+  unfolding after-accepted made sent applied
   clear-others j d = (put-other i _ (l .received) j d, put-other i _ (l .cancelled) j d)
 
 -- ---- what is cancelled stays so
@@ -200,15 +200,15 @@ module _ (r q : ℕ) (st : Chassis) (l : Ledger) (ok : Ok r q st l) (i : ℕ) wh
 pub stays-cancelled : (r q i : ℕ) (os os′ : List Offer) (n : Name) → has (ledger-after r q os .cancelled i) n ≡ true
     → has (ledger-after r q (os ++ os′) .cancelled i) n ≡ true
 stays-cancelled r q i os os′ n h =
-    rw (kept-append r q os os′ fresh-chassis empty-ledger)
-    (kept-grows r q (map step-of os′) (answers r os′ (after-run r os)) (ledger-after r q os) .cancelled i n h)
+    rw (after-steps-append r q os os′ fresh-chassis empty-ledger)
+    (after-steps-grows r q (map step-of os′) (answers r os′ (after-run r os)) (ledger-after r q os) .cancelled i n h)
 
 pub is-cleared : (r q : ℕ) (os : List Offer) (n : Name) (w : ClearedBySeer r q os n) → has (ledger-after r q os .cancelled (w .card)) n ≡ true
-unfolding answers kept fed
+unfolding answers after-steps after-step
 is-cleared r q os n w =
     let l = ledger-after r q (w .before) in
     let st = after-run r (w .before) in
-    rw (w .in-list, kept-append r q (w .before) (w .offer ∷ w .later) fresh-chassis empty-ledger)
-    (kept-grows r q (map step-of (w .later)) (answers r (w .later) (stepped r (w .offer) st)) (fed r q (w .offer .step) (accepted r (w .offer) st) l) .cancelled (w .card) n
+    rw (w .in-list, after-steps-append r q (w .before) (w .offer ∷ w .later) fresh-chassis empty-ledger)
+    (after-steps-grows r q (map step-of (w .later)) (answers r (w .later) (stepped r (w .offer) st)) (after-step r q (w .offer .step) (accepted r (w .offer) st) l) .cancelled (w .card) n
     (rw (w .was-accepted, w .is-clear, clear-cancelled r q st l (run-invariant r q (w .before)) (w .card) n)
     (or-right (has (l .cancelled (w .card)) n) (has (l .received (w .card)) n) (w .had-received))))

@@ -8,7 +8,7 @@ use lib.Dec.{eqb}
 use Rattle.protocol.specs.Tables.{put, sum, bits}
 use Rattle.protocol.specs.Entry.{Entry, absent, incremented, cleared}
 use Rattle.protocol.specs.Names.{has, insert, join, names-after, tally, any, latest, beyond}
-use Rattle.protocol.specs.Ledger.{Step, count, clear, deliver, applied, sent, made, next-item, rest-items, handed, count-item, holds, clear-names, entered, fed, kept, ledger-value, ledger-holders}
+use Rattle.protocol.specs.Ledger.{Step, count, clear, deliver, applied, sent, made, next-item, rest-items, handed, count-item, holds, clear-names, after-accepted, after-step, after-steps, ledger-value, ledger-holders}
 use Rattle.protocol.specs.Chassis.{Offer, cleared-row, taken, count-message, present-entries, clear-message, issued, delivered, done, enabled, stepped, run, answers, read-value, read-holders}
 use Rattle.protocol.specs.Theorem.{after-run, ledger-after}
 
@@ -99,5 +99,5 @@ scenarios =
     ∷ []
 
 pub scenarios-hold : all-good scenarios ≡ true
-unfolding all-good holds-good scenarios listing overtaking not-yet both-cleared put sum incremented cleared has insert join names-after tally any latest beyond applied sent made next-item rest-items handed count-item holds clear-names entered fed kept ledger-value cleared-row taken count-message present-entries clear-message issued delivered done enabled stepped run answers read-value read-holders ledger-holders bits
+unfolding all-good holds-good scenarios listing overtaking not-yet both-cleared put sum incremented cleared has insert join names-after tally any latest beyond applied sent made next-item rest-items handed count-item holds clear-names after-accepted after-step after-steps ledger-value cleared-row taken count-message present-entries clear-message issued delivered done enabled stepped run answers read-value read-holders ledger-holders bits
 scenarios-hold = refl

@@ -16,11 +16,11 @@ use Rattle.protocol.specs.Names.{Name, name, has}
 use Rattle.protocol.specs.NameLaws.{Prefixes, Prefixes-empty, add-next, latest-is}
 use Rattle.protocol.specs.Joins.{has-none}
 use Rattle.protocol.specs.Totals.{sum-ones, sum-next}
-use Rattle.protocol.specs.Ledger.{Step, count, clear, deliver, Item, Ledger, nothing, empty-ledger, next-item, rest-items, applied, sent, made, handed, count-item, clear-item, entered, fed, kept}
+use Rattle.protocol.specs.Ledger.{Step, count, clear, deliver, Item, Ledger, nothing, empty-ledger, next-item, rest-items, applied, sent, made, handed, count-item, clear-item, after-accepted, after-step, after-steps}
 use Rattle.protocol.specs.Chassis.{Message, Chassis, fresh-chassis, taken, count-message, clear-message, issued, delivered, done, enabled, Offer, accepted, stepped, run, answers}
 use Rattle.protocol.specs.Runs.{step-of, after-run, ledger-after}
-use Rattle.protocol.specs.Steps.{Ok, taken-N}
-use Rattle.protocol.specs.Theorem.{fresh-ok, step-ok}
+use Rattle.protocol.specs.InvariantSteps.{Invariant, taken-N}
+use Rattle.protocol.specs.Theorem.{fresh-invariant, step-invariant}
 use Rattle.protocol.specs.History.{Sent, ids, History, empty-history, total, received-by, made-by, next-made, next-received, extended, recorded, history-after}
 use Rattle.protocol.specs.Messages.{Told, no-told, Table, message-at, MessageOk, AllOk, more, message-old, message-new, more-here, longer, all-more}
 use Rattle.protocol.specs.Causality.{CardKnows, card-more, card-takes, other-in-order, count-in-order, clear-in-order}
@@ -229,7 +229,7 @@ module _ (r q : ℕ) (st : Chassis) (l : Ledger) (h : History) (k : Traced r q s
 
 -- ---- an accepted step
 
-module _ (r q : ℕ) (st : Chassis) (l : Ledger) (h : History) (ok : Ok r q st l) (k : Traced r q st l h) where
+module _ (r q : ℕ) (st : Chassis) (l : Ledger) (h : History) (ok : Invariant r q st l) (k : Traced r q st l h) where
   made-so-far : (i : ℕ) → length (h .log i) ≡ length (k .table i)
   made-so-far i = rw (k .known .logs i) (length-map (k .table i) told-sent)
 
@@ -260,8 +260,8 @@ module _ (r q : ℕ) (st : Chassis) (l : Ledger) (h : History) (ok : Ok r q st l
       (other-in-order r q (k .table) (k .known .messages) (k .known .outside) i (k .N i) (k .known .within i) (k .own i) l (k .known .cards i)
       _ (ok .cards i .cancelled-is) (ids (h .received i)) (k .known .names i) c true 0 d) m))
 
-  done-traced : (s : Step) → enabled r s st ≡ true → Traced r q (done r s st) (entered r q s l) (extended s h)
-  unfolding enabled done entered extended
+  done-traced : (s : Step) → enabled r s st ≡ true → Traced r q (done r s st) (after-accepted r q s l) (extended s h)
+  unfolding enabled done after-accepted extended
   done-traced (count i c w) e = count-traced i c w (count-enabled r i c w st e .0) (count-message i c w (st .replica i))
   done-traced (clear i c) e = clear-traced i c (ltb-true i r e) (clear-message r c (st .replica i))
   done-traced (deliver i s) e =
@@ -271,22 +271,22 @@ module _ (r q : ℕ) (st : Chassis) (l : Ledger) (h : History) (ok : Ok r q st l
 
 -- ---- a list of steps
 
-step-traced : (r q : ℕ) (o : Offer) (st : Chassis) (l : Ledger) (h : History) → Ok r q st l → Traced r q st l h
-    → Traced r q (stepped r o st) (fed r q (o .step) (accepted r o st) l) (cond (accepted r o st) (extended (o .step) h) h)
-unfolding stepped fed
+step-traced : (r q : ℕ) (o : Offer) (st : Chassis) (l : Ledger) (h : History) → Invariant r q st l → Traced r q st l h
+    → Traced r q (stepped r o st) (after-step r q (o .step) (accepted r o st) l) (cond (accepted r o st) (extended (o .step) h) h)
+unfolding stepped after-step
 step-traced r q o st l h ok k =
     by-test (accepted r o st)
     (λ e. rw e (done-traced r q st l h ok k (o .step) (and-right (o .willing) (enabled r (o .step) st) e)))
     (λ e. rw e k)
 
-run-traced : (r q : ℕ) (os : List Offer) (st : Chassis) (l : Ledger) (h : History) → Ok r q st l → Traced r q st l h
-    → Traced r q (run r os st) (kept r q (map step-of os) (answers r os st) l) (recorded (map step-of os) (answers r os st) h)
-unfolding run answers kept recorded
+run-traced : (r q : ℕ) (os : List Offer) (st : Chassis) (l : Ledger) (h : History) → Invariant r q st l → Traced r q st l h
+    → Traced r q (run r os st) (after-steps r q (map step-of os) (answers r os st) l) (recorded (map step-of os) (answers r os st) h)
+unfolding run answers after-steps recorded
 run-traced r q [] st l h ok k = k
-run-traced r q (o ∷ os) st l h ok k = run-traced r q os (stepped r o st) (fed r q (o .step) (accepted r o st) l) _ (step-ok r q o st l ok) (step-traced r q o st l h ok k)
+run-traced r q (o ∷ os) st l h ok k = run-traced r q os (stepped r o st) (after-step r q (o .step) (accepted r o st) l) _ (step-invariant r q o st l ok) (step-traced r q o st l h ok k)
 
 pub run-history : (r q : ℕ) (os : List Offer) → Traced r q (after-run r os) (ledger-after r q os) (history-after r os)
-run-history r q os = run-traced r q os fresh-chassis empty-ledger empty-history (fresh-ok r q) (fresh-traced r q)
+run-history r q os = run-traced r q os fresh-chassis empty-ledger empty-history (fresh-invariant r q) (fresh-traced r q)
 
 -- ---- what a history has as received is what the replica counts
 

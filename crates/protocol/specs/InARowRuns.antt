@@ -23,15 +23,15 @@ use Rattle.protocol.specs.Chain.{Note, no-note, inc, clr, wire, after, m
 use Rattle.protocol.specs.Pairs.{placed, chain-proper, chain-before-end}
 use Rattle.protocol.specs.Cards.{seen}
 use Rattle.protocol.specs.Makers.{count-in-order}
-use Rattle.protocol.specs.Steps.{Ok, taken-N}
-use Rattle.protocol.specs.Theorem.{fresh-ok, step-ok, run-invariant}
+use Rattle.protocol.specs.InvariantSteps.{Invariant, taken-N}
+use Rattle.protocol.specs.Theorem.{fresh-invariant, step-invariant, run-invariant}
 use Rattle.protocol.specs.Links.{own-N-is}
 use Rattle.protocol.specs.Refusals.{received-within}
 use Rattle.protocol.specs.Runs.{step-of, after-run, ledger-after}
 use Rattle.protocol.specs.EntryLaws.{Placed}
 use Rattle.protocol.specs.Algorithm1.{Slot, State, Update, reset-generator, effector, slot-of, state-of, SomeUnits}
 use Rattle.protocol.specs.Algorithm1Laws.{reset-message-agrees, reset-effector-agrees, reset-effector-C}
-use Rattle.protocol.specs.InARow.{effectors, inc-generators, Instances, instance, Lot, effected, System, initial, made, next-lot, rest-lots, handed, entered, fed, kept, algorithm-1-after, instances-of, singles, updates-of}
+use Rattle.protocol.specs.InARow.{effectors, inc-generators, Instances, instance, Lot, effected, System, initial, made, next-lot, rest-lots, handed, after-accepted, after-step, after-steps, algorithm-1-after, instances-of, singles, updates-of}
 use Rattle.protocol.specs.InARowLaws.{state-is, EntriesWellFormed, Against, against-well-formed, effectors-are, generators-are}
 use Rattle.protocol.specs.Enabled.{count-enabled, deliver-enabled}
 
@@ -40,7 +40,7 @@ abbrev pub Proper-entries : Message → Type 0
 Proper-entries (increment q w p start) = Unit {0}
 Proper-entries (clearing q ts) = SomeUnits ts
 
-module _ (r q : ℕ) (st : Chassis) (l : Ledger) (k : Ok r q st l) where
+module _ (r q : ℕ) (st : Chassis) (l : Ledger) (k : Invariant r q st l) where
   against : (i s : ℕ) → Against (seen (k .notes) (st .replica i) s) (k .row i s) (st .replica i .C s) (st .replica i .entry q s)
   against i s =
       let p = k .cards i .pairs s in
@@ -235,41 +235,41 @@ module _ (x : System) (st : Chassis) (k : Same x st) where
 
 -- ---- a step, with the invariant of every counter
 
-module _ (r : ℕ) (x : System) (st : Chassis) (l : ℕ → Ledger) (ok : (q : ℕ) → Ok r q st (l q)) (k : Same x st) where
+module _ (r : ℕ) (x : System) (st : Chassis) (l : ℕ → Ledger) (ok : (q : ℕ) → Invariant r q st (l q)) (k : Same x st) where
   within-log : (i j : ℕ) → st .replica j .N i ≤ length (st .log i)
   within-log i j = rw (← (own-N-is r 0 st (l 0) (ok 0) i)) (received-within r 0 st (l 0) (ok 0) j i .1)
 
-  count-same : (i q w : ℕ) → 0 < w → Same (entered r (count i q w) x) (issued i (count-message i q w (st .replica i)) st)
-  unfolding entered count-message
+  count-same : (i q w : ℕ) → 0 < w → Same (after-accepted r (count i q w) x) (issued i (count-message i q w (st .replica i)) st)
+  unfolding after-accepted count-message
   count-same i q w some =
       made-same x st k i (count-message i q w (st .replica i)) (within-log i) tt (count-effectors r q st (l q) (ok q) i w some) _
       (ap (λ (us : List Update). record { counter = q; updates = us })
       (ap (λ (b : Instances). inc-generators i w (instance q b)) (k .replicas i) ∙ count-generators r q st (l q) (ok q) i w))
 
-  clear-same : (i q : ℕ) → Same (entered r (clear i q) x) (issued i (clear-message r q (st .replica i)) st)
-  unfolding entered clear-message reset-generator
+  clear-same : (i q : ℕ) → Same (after-accepted r (clear i q) x) (issued i (clear-message r q (st .replica i)) st)
+  unfolding after-accepted clear-message reset-generator
   clear-same i q =
       let some = some-units r (st .replica i .entry q) in
       made-same x st k i (clear-message r q (st .replica i)) (within-log i) some (clear-effectors r q st (l q) (ok q) i i _ some) _
       (ap (λ (b : Instances). record { counter = q; updates = reset-generator r (instance q b) ∷ [] }) (k .replicas i)
       ∙ ap (lot-of i) (reset-message-agrees r q (st .replica i)))
 
-  deliver-same : (i s : ℕ) → (i ≡ s → ⊥) → st .replica i .N s < st .replica s .N s → Same (entered r (deliver i s) x) (delivered i s st)
-  unfolding entered its-message
+  deliver-same : (i s : ℕ) → (i ≡ s → ⊥) → st .replica i .N s < st .replica s .N s → Same (after-accepted r (deliver i s) x) (delivered i s st)
+  unfolding after-accepted its-message
   deliver-same i s apart waits =
       let m = getD (st .log s) (st .replica i .N s) no-message in
       let q = counter-of m in
       let waits₁ : st .replica i .N s < length (st .log s) = rw (own-N-is r 0 st (l 0) (ok 0) s) at waits in
       handed-here x st k i s apart waits₁ (waiting-effectors r q st (l q) (ok q) i s waits m refl refl (k .entries s (st .replica i .N s) waits₁))
 
-  done-same : (s : Step) → enabled r s st ≡ true → Same (entered r s x) (done r s st)
+  done-same : (s : Step) → enabled r s st ≡ true → Same (after-accepted r s x) (done r s st)
   unfolding done
   done-same (count i q w) e = count-same i q w (count-enabled r i q w st e .1)
   done-same (clear i q) e = clear-same i q
   done-same (deliver i s) e = let on = deliver-enabled r i s st e in deliver-same i s (on .apart) (on .waits)
 
-  pub step-same : (o : Offer) → Same (fed r (o .step) (accepted r o st) x) (stepped r o st)
-  unfolding fed stepped
+  pub step-same : (o : Offer) → Same (after-step r (o .step) (accepted r o st) x) (stepped r o st)
+  unfolding after-step stepped
   step-same o =
       by-test (accepted r o st)
       (λ e. rw e (done-same (o .step) (and-right (o .willing) (enabled r (o .step) st) e)))
@@ -277,19 +277,19 @@ module _ (r : ℕ) (x : System) (st : Chassis) (l : ℕ → Ledger) (ok : (q : �
 
 -- ---- a list of steps
 
-run-same : (r : ℕ) (os : List Offer) (x : System) (st : Chassis) (l : ℕ → Ledger) → ((q : ℕ) → Ok r q st (l q)) → Same x st
-    → Same (kept r (map step-of os) (answers r os st) x) (run r os st)
-unfolding kept answers run
+run-same : (r : ℕ) (os : List Offer) (x : System) (st : Chassis) (l : ℕ → Ledger) → ((q : ℕ) → Invariant r q st (l q)) → Same x st
+    → Same (after-steps r (map step-of os) (answers r os st) x) (run r os st)
+unfolding after-steps answers run
 run-same r [] x st l ok k = k
 run-same r (o ∷ os) x st l ok k =
-    run-same r os _ _ (λ q. ledger.fed r q (o .step) (accepted r o st) (l q)) (λ q. step-ok r q o st (l q) (ok q)) (step-same r x st l ok k o)
+    run-same r os _ _ (λ q. ledger.after-step r q (o .step) (accepted r o st) (l q)) (λ q. step-invariant r q o st (l q) (ok q)) (step-same r x st l ok k o)
 
 pub after-same : (r : ℕ) (os : List Offer) → Same (algorithm-1-after r os) (after-run r os)
-after-same r os = run-same r os initial fresh-chassis (λ q. empty-ledger) (λ q. fresh-ok r q) fresh-same
+after-same r os = run-same r os initial fresh-chassis (λ q. empty-ledger) (λ q. fresh-invariant r q) fresh-same
 
 -- ---- step by step
 
-module _ (r q : ℕ) (st : Chassis) (l : Ledger) (k : Ok r q st l) where
+module _ (r q : ℕ) (st : Chassis) (l : Ledger) (k : Invariant r q st l) where
   pub count-leaves : (i w : ℕ) → enabled r (count i q w) st ≡ true
       → state-of q (done r (count i q w) st .replica i) ≡ effectors (inc-generators i w (state-of q (st .replica i))) (state-of q (st .replica i))
   unfolding enabled done issued

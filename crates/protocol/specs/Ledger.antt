@@ -115,20 +115,20 @@ made i it l = applied i it (sent i it l)
 -- ---- "It is fed the list's steps in order and told which of them were accepted (number 0). It takes nothing else from answers, books or logs."
 
 -- "an accepted step of another counter changes only its queues"
-unfoldable pub entered : ℕ → ℕ → Step → Ledger → Ledger
-entered r q (count i k w) l = made i (cond (eqb k q) (count-item q i w l) (nothing k)) l
-entered r q (clear i k) l = made i (cond (eqb k q) (clear-item r q i l) (nothing k)) l
-entered r q (deliver i s) l = handed i s l
+unfoldable pub after-accepted : ℕ → ℕ → Step → Ledger → Ledger
+after-accepted r q (count i k w) l = made i (cond (eqb k q) (count-item q i w l) (nothing k)) l
+after-accepted r q (clear i k) l = made i (cond (eqb k q) (clear-item r q i l) (nothing k)) l
+after-accepted r q (deliver i s) l = handed i s l
 
 -- "A declined step changes nothing in it"
-unfoldable pub fed : ℕ → ℕ → Step → Bool → Ledger → Ledger
-fed r q s accepted l = cond accepted (entered r q s l) l
+unfoldable pub after-step : ℕ → ℕ → Step → Bool → Ledger → Ledger
+after-step r q s accepted l = cond accepted (after-accepted r q s l) l
 
 -- the list's steps, and of each whether it was accepted
-unfoldable pub kept : ℕ → ℕ → List Step → List Bool → Ledger → Ledger
-kept r q [] fs l = l
-kept r q (s ∷ ss) [] l = l
-kept r q (s ∷ ss) (a ∷ fs) l = kept r q ss fs (fed r q s a l)
+unfoldable pub after-steps : ℕ → ℕ → List Step → List Bool → Ledger → Ledger
+after-steps r q [] fs l = l
+after-steps r q (s ∷ ss) [] l = l
+after-steps r q (s ∷ ss) (a ∷ fs) l = after-steps r q ss fs (after-step r q s a l)
 
 -- ---- "Value at a card: the number of names received and not cancelled there."
 unfoldable pub ledger-value : ℕ → Ledger → ℕ

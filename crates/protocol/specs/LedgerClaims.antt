@@ -1,5 +1,5 @@
 -- CLAIMS. What the ledger of a counter does when it is fed, whichever of the steps were accepted, and which counter a delivery belongs to. Each has document 01's
--- sentence, its statement, and the law that proves it. `kept r q ss flags empty-ledger` is counter q's ledger, fed the steps and told which were accepted.
+-- sentence, its statement, and the law that proves it. `after-steps r q ss flags empty-ledger` is counter q's ledger, fed the steps and told which were accepted.
 use Prim.Native.Nat.{ℕ, suc, _+_}
 use mathlib.Core.Path.{_≡_, refl, sym}
 use mathlib.Core.Bool.{Bool, true, false, _||_}
@@ -7,11 +7,11 @@ use mathlib.Core.List.{List, [], _∷_, map}
 use lib.Dec.{eqb}
 use lib.ListN.{drop}
 use Rattle.protocol.specs.Names.{Name, name, has, names-after, latest}
-use Rattle.protocol.specs.Ledger.{Step, count, Ledger, empty-ledger, belongs, entered, fed, kept, ledger-value, ledger-holders}
+use Rattle.protocol.specs.Ledger.{Step, count, Ledger, empty-ledger, belongs, after-accepted, after-step, after-steps, ledger-value, ledger-holders}
 use Rattle.protocol.specs.Chassis.{Offer, enabled, counter-of}
 use Rattle.protocol.specs.Runs.{after-run, ledger-after}
 use Rattle.protocol.specs.Alone.{step-counter}
-use Rattle.protocol.specs.LedgerLaws.{kept-grows, other-fed, same-value, same-holders}
+use Rattle.protocol.specs.LedgerLaws.{after-steps-grows, other-after-step, same-value, same-holders}
 use Rattle.protocol.specs.NewNames.{new-to-all, maker-gains, others-stay, value-gains}
 use Rattle.protocol.specs.Links.{link-counters}
 use Rattle.protocol.specs.Theorem.{run-invariant}
@@ -19,16 +19,16 @@ use Rattle.protocol.specs.AloneTurns.{belongs-to}
 
 -- "joins received", "join cancelled": no name ever leaves a set.
 pub sets-only-grow : (r q : ℕ) (ss : List Step) (flags : List Bool) (l : Ledger) (i : ℕ) (n : Name)
-    → (has (l .received i) n ≡ true → has (kept r q ss flags l .received i) n ≡ true)
-    × (has (l .cancelled i) n ≡ true → has (kept r q ss flags l .cancelled i) n ≡ true)
-sets-only-grow r q ss flags l i n = let h = kept-grows r q ss flags l in (h .received i n, h .cancelled i n)
+    → (has (l .received i) n ≡ true → has (after-steps r q ss flags l .received i) n ≡ true)
+    × (has (l .cancelled i) n ≡ true → has (after-steps r q ss flags l .cancelled i) n ≡ true)
+sets-only-grow r q ss flags l i n = let h = after-steps-grows r q ss flags l in (h .received i n, h .cancelled i n)
 
 -- "Count by i: a new name." No card has one of the names of a count in either set, card i's received set gains just these, no other card's sets move, and the value at
 -- card i rises by the amount.
 pub count-adds-new-names : (r q i w : ℕ) (ss : List Step) (flags : List Bool)
-    → let l = kept r q ss flags empty-ledger in
+    → let l = after-steps r q ss flags empty-ledger in
     let new = names-after i (latest i (l .received i)) w in
-    let l′ = entered r q (count i q w) l in
+    let l′ = after-accepted r q (count i q w) l in
     ((j : ℕ) (n : Name) → has new n ≡ true → (has (l .received j) n ≡ false) × (has (l .cancelled j) n ≡ false))
     × ((n : Name) → has (l′ .received i) n ≡ has (l .received i) n || has new n)
     × ((j : ℕ) → (j ≡ i → ⊥) → (l′ .received j ≡ l .received j) × (l′ .cancelled j ≡ l .cancelled j))
@@ -44,17 +44,17 @@ one-new-name i earlier = refl
 -- "an accepted step of another counter changes only its queues.": the sets of every card stay as they are. A delivery that hands over a message of another counter
 -- is such a step.
 pub other-steps-leave : (r q : ℕ) (ss : List Step) (flags : List Bool) (s : Step) (a : Bool)
-    → let l = kept r q ss flags empty-ledger in
-    belongs q s l ≡ false → (i : ℕ) → (fed r q s a l .received i ≡ l .received i) × (fed r q s a l .cancelled i ≡ l .cancelled i)
-other-steps-leave r q ss flags s a e i = let h = other-fed r q ss flags s a e in (sym (h .received i), sym (h .cancelled i))
+    → let l = after-steps r q ss flags empty-ledger in
+    belongs q s l ≡ false → (i : ℕ) → (after-step r q s a l .received i ≡ l .received i) × (after-step r q s a l .cancelled i ≡ l .cancelled i)
+other-steps-leave r q ss flags s a e i = let h = other-after-step r q ss flags s a e in (sym (h .received i), sym (h .cancelled i))
 
 -- So its value and its holding cards are the same at every card.
 pub other-steps-read : (r q : ℕ) (ss : List Step) (flags : List Bool) (s : Step) (a : Bool)
-    → let l = kept r q ss flags empty-ledger in
+    → let l = after-steps r q ss flags empty-ledger in
     belongs q s l ≡ false
-    → (i : ℕ) → (ledger-value i (fed r q s a l) ≡ ledger-value i l) × ((r′ : ℕ) → ledger-holders r′ i (fed r q s a l) ≡ ledger-holders r′ i l)
+    → (i : ℕ) → (ledger-value i (after-step r q s a l) ≡ ledger-value i l) × ((r′ : ℕ) → ledger-holders r′ i (after-step r q s a l) ≡ ledger-holders r′ i l)
 other-steps-read r q ss flags s a e i =
-    let h = other-fed r q ss flags s a e in (sym (same-value _ _ h i), λ r′. sym (same-holders _ _ h r′ i))
+    let h = other-after-step r q ss flags s a e in (sym (same-value _ _ h i), λ r′. sym (same-holders _ _ h r′ i))
 
 -- "a link hands over its sender's accepted counts and clears, of all counters, in the order made": after any list of steps, what the ledger's link from s to another
 -- card i has still to hand over is of the counters of the messages that s has made and i has not received, one for one and in order.

@@ -11,16 +11,16 @@ use Rattle.protocol.specs.Cases.{by-place, by-test}
 use Rattle.protocol.specs.Tables.{put, put-same, put-other, put-at, put-same-row, put-other-row, put-cases}
 use Rattle.protocol.specs.Names.{Name, has, join, latest}
 use Rattle.protocol.specs.Joins.{has-join-right, latest-join, latest-append, latest-up-to}
-use Rattle.protocol.specs.Ledger.{Step, count, clear, deliver, Item, nothing, Ledger, empty-ledger, count-item, holds, clear-names, next-item, rest-items, turn-is, belongs, applied, handed, sent, made, entered, fed, kept, ledger-value, ledger-holders}
+use Rattle.protocol.specs.Ledger.{Step, count, clear, deliver, Item, nothing, Ledger, empty-ledger, count-item, holds, clear-names, next-item, rest-items, turn-is, belongs, applied, handed, sent, made, after-accepted, after-step, after-steps, ledger-value, ledger-holders}
 
 -- what every accepted step keeps, every ledger that was fed has
-pub kept-keeps : (r q : ℕ) (P : Ledger → Type 0) → ((s : Step) (l : Ledger) → P l → P (entered r q s l)) → (ss : List Step) (flags : List Bool) (l : Ledger)
-    → P l → P (kept r q ss flags l)
-unfolding kept fed
-kept-keeps r q P keeps [] flags l h = h
-kept-keeps r q P keeps (s ∷ ss) [] l h = h
-kept-keeps r q P keeps (s ∷ ss) (true ∷ flags) l h = kept-keeps r q P keeps ss flags (entered r q s l) (keeps s l h)
-kept-keeps r q P keeps (s ∷ ss) (false ∷ flags) l h = kept-keeps r q P keeps ss flags l h
+pub after-steps-keeps : (r q : ℕ) (P : Ledger → Type 0) → ((s : Step) (l : Ledger) → P l → P (after-accepted r q s l)) → (ss : List Step) (flags : List Bool) (l : Ledger)
+    → P l → P (after-steps r q ss flags l)
+unfolding after-steps after-step
+after-steps-keeps r q P keeps [] flags l h = h
+after-steps-keeps r q P keeps (s ∷ ss) [] l h = h
+after-steps-keeps r q P keeps (s ∷ ss) (true ∷ flags) l h = after-steps-keeps r q P keeps ss flags (after-accepted r q s l) (keeps s l h)
+after-steps-keeps r q P keeps (s ∷ ss) (false ∷ flags) l h = after-steps-keeps r q P keeps ss flags l h
 
 -- ---- the items of links
 
@@ -113,15 +113,15 @@ module _ (l l′ : Ledger) (h : Grows l l′) where
     cancelled = λ j n e. joined-has i (it .cancels) (l′ .cancelled) j n (h .cancelled j n e);
   }
 
-  entered-grows : (r q : ℕ) (s : Step) → Grows l (entered r q s l′)
-  unfolding entered made sent handed
-  entered-grows r q (count i k w) = applied-grows i _ _
-  entered-grows r q (clear i k) = applied-grows i _ _
-  entered-grows r q (deliver i s) = applied-grows i _ _
+  after-accepted-grows : (r q : ℕ) (s : Step) → Grows l (after-accepted r q s l′)
+  unfolding after-accepted made sent handed
+  after-accepted-grows r q (count i k w) = applied-grows i _ _
+  after-accepted-grows r q (clear i k) = applied-grows i _ _
+  after-accepted-grows r q (deliver i s) = applied-grows i _ _
 
-pub kept-grows : (r q : ℕ) (ss : List Step) (flags : List Bool) (l : Ledger) → Grows l (kept r q ss flags l)
-kept-grows r q ss flags l =
-    kept-keeps r q (Grows l) (λ s l′ h. entered-grows l l′ h r q s) ss flags l (record { received = λ i n e. e; cancelled = λ i n e. e })
+pub after-steps-grows : (r q : ℕ) (ss : List Step) (flags : List Bool) (l : Ledger) → Grows l (after-steps r q ss flags l)
+after-steps-grows r q ss flags l =
+    after-steps-keeps r q (Grows l) (λ s l′ h. after-accepted-grows l l′ h r q s) ss flags l (record { received = λ i n e. e; cancelled = λ i n e. e })
 
 -- ---- ledgers with the same sets
 
@@ -174,14 +174,14 @@ silent-made q k it e =
     (λ t. rw t (λ f. absurd (false≢true (sym f ∙ eq-eqb (it .counter) q e))))
     (λ t. rw t (λ f. refl))
 
-entered-silent : (r q : ℕ) (s : Step) (l : Ledger) → AllSilent q l → AllSilent q (entered r q s l)
-unfolding entered made sent handed applied count-item
-entered-silent r q (count i k w) l h = each-sent (Silent q) (l .queue) h i _ (silent-made q k _ refl)
-entered-silent r q (clear i k) l h = each-sent (Silent q) (l .queue) h i _ (silent-made q k _ refl)
-entered-silent r q (deliver i s) l h = each-handed (Silent q) (l .queue) h i s
+after-accepted-silent : (r q : ℕ) (s : Step) (l : Ledger) → AllSilent q l → AllSilent q (after-accepted r q s l)
+unfolding after-accepted made sent handed applied count-item
+after-accepted-silent r q (count i k w) l h = each-sent (Silent q) (l .queue) h i _ (silent-made q k _ refl)
+after-accepted-silent r q (clear i k) l h = each-sent (Silent q) (l .queue) h i _ (silent-made q k _ refl)
+after-accepted-silent r q (deliver i s) l h = each-handed (Silent q) (l .queue) h i s
 
-kept-silent : (r q : ℕ) (ss : List Step) (flags : List Bool) → AllSilent q (kept r q ss flags empty-ledger)
-kept-silent r q ss flags = kept-keeps r q (AllSilent q) (entered-silent r q) ss flags empty-ledger (λ s i. tt)
+after-steps-silent : (r q : ℕ) (ss : List Step) (flags : List Bool) → AllSilent q (after-steps r q ss flags empty-ledger)
+after-steps-silent r q ss flags = after-steps-keeps r q (AllSilent q) (after-accepted-silent r q) ss flags empty-ledger (λ s i. tt)
 
 -- what a link hands over whose turn is not q's
 silent-next : (q : ℕ) (its : List Item) → EachItem (Silent q) its → turn-is q its ≡ false → next-item its ≡ nothing (next-item its .counter)
@@ -189,15 +189,15 @@ unfolding turn-is next-item
 silent-next q [] h e = refl
 silent-next q (it ∷ its) h e = h .0 e
 
-other-entered : (r q : ℕ) (s : Step) (l : Ledger) → AllSilent q l → belongs q s l ≡ false → SameSets (entered r q s l) l
-unfolding belongs entered made sent handed
-other-entered r q (count i k w) l h e = rw e (none-applied l l (same-sets l) i k _)
-other-entered r q (clear i k) l h e = rw e (none-applied l l (same-sets l) i k _)
-other-entered r q (deliver i s) l h e =
+other-after-accepted : (r q : ℕ) (s : Step) (l : Ledger) → AllSilent q l → belongs q s l ≡ false → SameSets (after-accepted r q s l) l
+unfolding belongs after-accepted made sent handed
+other-after-accepted r q (count i k w) l h e = rw e (none-applied l l (same-sets l) i k _)
+other-after-accepted r q (clear i k) l h e = rw e (none-applied l l (same-sets l) i k _)
+other-after-accepted r q (deliver i s) l h e =
     rw (silent-next q (l .queue s i) (h s i) e) (none-applied l l (same-sets l) i (next-item (l .queue s i) .counter) _)
 
-pub other-fed : (r q : ℕ) (ss : List Step) (flags : List Bool) (s : Step) (a : Bool)
-    → let l = kept r q ss flags empty-ledger in belongs q s l ≡ false → SameSets (fed r q s a l) l
-unfolding fed
-other-fed r q ss flags s true e = other-entered r q s _ (kept-silent r q ss flags) e
-other-fed r q ss flags s false e = same-sets _
+pub other-after-step : (r q : ℕ) (ss : List Step) (flags : List Bool) (s : Step) (a : Bool)
+    → let l = after-steps r q ss flags empty-ledger in belongs q s l ≡ false → SameSets (after-step r q s a l) l
+unfolding after-step
+other-after-step r q ss flags s true e = other-after-accepted r q s _ (after-steps-silent r q ss flags) e
+other-after-step r q ss flags s false e = same-sets _

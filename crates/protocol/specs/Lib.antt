@@ -11,7 +11,7 @@ pub mod Chassis
 pub mod Algorithm1
 pub mod Rows
 pub mod Runs
-pub mod Layouts
+pub mod Store
 -- One counter's own steps; read-and-clear; amounts; deliveries in rounds; messages made and received; what was cleared.
 pub mod Alone
 pub mod ReadAndClear
@@ -59,10 +59,10 @@ pub mod Pairs
 pub mod Cards
 pub mod Makers
 pub mod Enabled
-pub mod Steps
+pub mod InvariantSteps
 pub mod Theorem
 -- What else the invariant gives.
-pub mod RunLaws
+pub mod RunsLaws
 pub mod Links
 pub mod Refusals
 -- One counter's own steps alone.
@@ -95,4 +95,4 @@ pub mod CaughtUpLaws
 -- What is cancelled was seen by a card that cleared.
 pub mod ClearedLaws
 -- Replicas kept in words.
-pub mod Stores
+pub mod StoreLaws

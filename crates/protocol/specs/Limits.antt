@@ -6,39 +6,39 @@ abbrev pub MAX : ℕ
 MAX = 281474976710655
 
 -- "r cards, 1 to 16; k counters, 1 to 64; cards and counters numbered from 0."
-abbrev pub card-limit : ℕ
-card-limit = 16
+abbrev pub most-cards : ℕ
+most-cards = 16
 
-abbrev pub counter-limit : ℕ
-counter-limit = 64
+abbrev pub most-counters : ℕ
+most-counters = 64
 
 -- "Book length, r, k or own card wrong"
-abbrev pub wrong-replica : ℕ
-wrong-replica = 1
+abbrev pub bad-replica : ℕ
+bad-replica = 1
 
 -- "Row not sound"
-abbrev pub not-well-formed : ℕ
-not-well-formed = 2
+abbrev pub bad-row : ℕ
+bad-row = 2
 
 -- "Counter not below k"
-abbrev pub no-such-counter : ℕ
-no-such-counter = 3
+abbrev pub bad-counter : ℕ
+bad-counter = 3
 
 -- "Own N = MAX"
-abbrev pub no-more-messages : ℕ
-no-more-messages = 4
+abbrev pub exhausted : ℕ
+exhausted = 4
 
 -- "Output shorter than the message"
-abbrev pub output-too-short : ℕ
-output-too-short = 5
+abbrev pub short-output : ℕ
+short-output = 5
 
 -- "Bytes do not read, or a message to write is out of range"
 abbrev pub unreadable : ℕ
 unreadable = 6
 
 -- "Sender or entry card not below r, or sender is the own card"
-abbrev pub no-such-card : ℕ
-no-such-card = 7
+abbrev pub bad-card : ℕ
+bad-card = 7
 
 -- "Sequence <= N[sender]"
 abbrev pub repeated : ℕ
@@ -53,17 +53,17 @@ abbrev pub implausible : ℕ
 implausible = 10
 
 -- "Chassis sizes wrong"
-abbrev pub wrong-sizes : ℕ
-wrong-sizes = 11
+abbrev pub bad-sizes : ℕ
+bad-sizes = 11
 
 -- "Step kind not 1, 2 or 3"
-abbrev pub no-such-step : ℕ
-no-such-step = 12
+abbrev pub bad-kind : ℕ
+bad-kind = 12
 
 -- "No message waiting"
-abbrev pub none-waiting : ℕ
-none-waiting = 13
+abbrev pub nothing-waiting : ℕ
+nothing-waiting = 13
 
 -- "Log too short for the message"
-abbrev pub log-too-short : ℕ
-log-too-short = 14
+abbrev pub log-full : ℕ
+log-full = 14

@@ -14,7 +14,7 @@ use Rattle.protocol.specs.Ledger.{deliver, Ledger, some-item, link-waits
 use Rattle.protocol.specs.Chassis.{Chassis, enabled, counter-of}
 use Rattle.protocol.specs.Chain.{Note, other, inc, clr, wire, after, mark-at}
 use Rattle.protocol.specs.Cards.{item}
-use Rattle.protocol.specs.Steps.{Ok, items}
+use Rattle.protocol.specs.InvariantSteps.{Invariant, items}
 
 -- ---- links
 
@@ -38,7 +38,7 @@ item-counters q s zero (t ∷ h) k = ap₂ (λ (c : ℕ) (cs : List ℕ). c ∷ 
 item-counters q s (suc n) [] k = refl
 item-counters q s (suc n) (t ∷ h) k = item-counters q s n h k
 
-module _ (r q : ℕ) (st : Chassis) (l : Ledger) (k : Ok r q st l) where
+module _ (r q : ℕ) (st : Chassis) (l : Ledger) (k : Invariant r q st l) where
   -- the counters of what the link from s to i has still to hand over
   pub link-counters : (i s : ℕ) → (i ≡ s → ⊥) → map (λ it. it .counter) (l .queue s i) ≡ map counter-of (drop (st .replica i .N s) (st .log s))
   link-counters i s apart =

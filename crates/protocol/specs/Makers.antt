@@ -125,18 +125,18 @@ module _ (q : ℕ) (notes : ℕ → List Note) (v : (j : ℕ) → ValidNotes q j
   target-names-append [] us = refl
   target-names-append (t ∷ ts) us = rw (target-names-append ts us) (sym (append-assoc (names-up-to (t .card) (t .mark .names)) (target-names ts) (target-names us)))
 
-  target-entered : (j : ℕ) (t : Bool)
+  target-after-accepted : (j : ℕ) (t : Bool)
       → cond t (names-up-to j (max (seen notes b j .names) (row j .names))) [] ≡ target-names (cond t (record { card = j; mark = later-of (seen notes b j) (row j) } ∷ []) [])
   unfolding target-names
-  target-entered j true = rw (later-names (seen notes b j) (row j)) (sym (append-nil (names-up-to j (max (seen notes b j .names) (row j .names)))))
-  target-entered j false = refl
+  target-after-accepted j true = rw (later-names (seen notes b j) (row j)) (sym (append-nil (names-up-to j (max (seen notes b j .names) (row j .names)))))
+  target-after-accepted j false = refl
 
-  targets-entered : (r : ℕ) → clear-names r i l ≡ target-names (clear-targets r (seen notes b) row (b .entry q))
+  targets-after-accepted : (r : ℕ) → clear-names r i l ≡ target-names (clear-targets r (seen notes b) row (b .entry q))
   unfolding clear-targets clear-names target-names
-  targets-entered zero = refl
-  targets-entered (suc r) =
-      rw (holds-is r, latest-is r (l .received i) _ (k .received-is), latest-is r (l .cancelled i) _ (k .cancelled-is), targets-entered r)
-      (ap (λ (ns : List Name). target-names (clear-targets r (seen notes b) row (b .entry q)) ++ ns) (target-entered r (present (b .entry q r)))
+  targets-after-accepted zero = refl
+  targets-after-accepted (suc r) =
+      rw (holds-is r, latest-is r (l .received i) _ (k .received-is), latest-is r (l .cancelled i) _ (k .cancelled-is), targets-after-accepted r)
+      (ap (λ (ns : List Name). target-names (clear-targets r (seen notes b) row (b .entry q)) ++ ns) (target-after-accepted r (present (b .entry q r)))
       ∙ sym (target-names-append (clear-targets r (seen notes b) row (b .entry q)) _))
 
   -- the sender's own entry goes no further than its own messages
@@ -179,4 +179,4 @@ module _ (q : ℕ) (notes : ℕ → List Note) (v : (j : ℕ) → ValidNotes q j
   clear-on r = targets-on q notes v i row b l k r
 
   pub clear-enters : (r : ℕ) → clear-item r q i l ≡ item q i (clear-note notes row r q b) (seen notes b i)
-  clear-enters r = ap (λ (ns : List Name). record { counter = q; adds = []; cancels = ns }) (targets-entered q notes v i row b l k r)
+  clear-enters r = ap (λ (ns : List Name). record { counter = q; adds = []; cancels = ns }) (targets-after-accepted q notes v i row b l k r)

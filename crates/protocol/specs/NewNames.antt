@@ -13,8 +13,8 @@ use Rattle.protocol.specs.Tables.{put, put-same, put-other, put-at}
 use Rattle.protocol.specs.Names.{Name, name, has, join, names-after, names-up-to, latest, beyond}
 use Rattle.protocol.specs.NameLaws.{latest-bounds, tally-cong, tally-new, not-beyond}
 use Rattle.protocol.specs.Joins.{has-join, names-after-only, latest-join, latest-after, latest-up-to}
-use Rattle.protocol.specs.Ledger.{Step, count, clear, deliver, Item, nothing, Ledger, empty-ledger, count-item, clear-names, clear-item, next-item, applied, handed, sent, made, entered, kept, ledger-value}
-use Rattle.protocol.specs.LedgerLaws.{kept-keeps, EachItem, each-wider, each-next, each-sent, each-handed, UpTo, set-grows, set-bounded, clear-latest}
+use Rattle.protocol.specs.Ledger.{Step, count, clear, deliver, Item, nothing, Ledger, empty-ledger, count-item, clear-names, clear-item, next-item, applied, handed, sent, made, after-accepted, after-steps, ledger-value}
+use Rattle.protocol.specs.LedgerLaws.{after-steps-keeps, EachItem, each-wider, each-next, each-sent, each-handed, UpTo, set-grows, set-bounded, clear-latest}
 
 -- ---- no name is later than those that its maker has received of its own
 
@@ -107,15 +107,15 @@ module _ (l : Ledger) (k : Known l) (i : ℕ) where
   unfolding latest
   other-known c = made-known l k i (nothing c) ((λ j. omega arith), (λ j. omega arith))
 
-entered-known : (r q : ℕ) (s : Step) (l : Ledger) → Known l → Known (entered r q s l)
-unfolding entered
-entered-known r q (count i c w) l k = by-test (eqb c q) (λ e. rw e (count-known l k i q w)) (λ e. rw e (other-known l k i c))
-entered-known r q (clear i c) l k = by-test (eqb c q) (λ e. rw e (clear-known l k i r q)) (λ e. rw e (other-known l k i c))
-entered-known r q (deliver i s) l k = handed-known l k i s
+after-accepted-known : (r q : ℕ) (s : Step) (l : Ledger) → Known l → Known (after-accepted r q s l)
+unfolding after-accepted
+after-accepted-known r q (count i c w) l k = by-test (eqb c q) (λ e. rw e (count-known l k i q w)) (λ e. rw e (other-known l k i c))
+after-accepted-known r q (clear i c) l k = by-test (eqb c q) (λ e. rw e (clear-known l k i r q)) (λ e. rw e (other-known l k i c))
+after-accepted-known r q (deliver i s) l k = handed-known l k i s
 
-kept-known : (r q : ℕ) (ss : List Step) (flags : List Bool) → Known (kept r q ss flags empty-ledger)
-kept-known r q ss flags =
-    kept-keeps r q Known (entered-known r q) ss flags empty-ledger
+after-steps-known : (r q : ℕ) (ss : List Step) (flags : List Bool) → Known (after-steps r q ss flags empty-ledger)
+after-steps-known r q ss flags =
+    after-steps-keeps r q Known (after-accepted-known r q) ss flags empty-ledger
     (record { received = λ i j. omega arith; cancelled = λ i j. omega arith; links = λ s i. tt })
 
 -- ---- a count by card i
@@ -168,21 +168,21 @@ module _ (l : Ledger) (k : Known l) (q i w : ℕ) where
 -- as the claim has it
 module _ (r q : ℕ) (ss : List Step) (flags : List Bool) (i w : ℕ) where
   abbrev before : Ledger
-  before = kept r q ss flags empty-ledger
+  before = after-steps r q ss flags empty-ledger
 
   abbrev names : List Name
   names = names-after i (latest i (before .received i)) w
 
   abbrev after : Ledger
-  after = entered r q (count i q w) before
+  after = after-accepted r q (count i q w) before
 
   is-made : after ≡ made i (count-item q i w before) before
-  unfolding entered
+  unfolding after-accepted
   is-made = rw (eq-eqb q q refl)
 
   pub new-to-all : (j : ℕ) (n : Name) → has names n ≡ true → (has (before .received j) n ≡ false) × (has (before .cancelled j) n ≡ false)
   new-to-all j n e =
-      let k = kept-known r q ss flags in
+      let k = after-steps-known r q ss flags in
       (new-not before k q i w (before .received j) (k .received j) n e, new-not before k q i w (before .cancelled j) (k .cancelled j) n e)
 
   pub maker-gains : (n : Name) → has (after .received i) n ≡ has (before .received i) n || has names n
@@ -200,4 +200,4 @@ module _ (r q : ℕ) (ss : List Step) (flags : List Bool) (i w : ℕ) where
   others-stay j d = rw is-made (put-other i _ (before .received) j d, put-other i _ (before .cancelled) j d)
 
   pub value-gains : ledger-value i after ≡ ledger-value i before + w
-  value-gains = rw is-made (value-rises before (kept-known r q ss flags) q i w)
+  value-gains = rw is-made (value-rises before (after-steps-known r q ss flags) q i w)

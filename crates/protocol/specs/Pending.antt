@@ -3,7 +3,7 @@
 use Prim.Native.Nat.{ℕ, _-_}
 use mathlib.Core.Bool.{true}
 use mathlib.Core.List.{List, [], _∷_, _++_, map}
-use Rattle.protocol.specs.Ledger.{Step, deliver, Ledger, empty-ledger, kept}
+use Rattle.protocol.specs.Ledger.{Step, deliver, Ledger, empty-ledger, after-steps}
 use Rattle.protocol.specs.Chassis.{Chassis, fresh-chassis, Offer, accepted, stepped, answers}
 use Rattle.protocol.specs.Runs.{step-of, after-run, all-accepted}
 use Rattle.protocol.specs.RoundRobin.{Link, Transport, Progress, deliver-pending, total-waiting}
@@ -46,4 +46,4 @@ pump-steps ls = map (λ l. deliver (l .receiver) (l .sender)) ls
 abbrev pub ledger-after-pumps : ℕ → ℕ → List Offer → List ℕ → Ledger
 ledger-after-pumps r q os bs =
     let ls = pumped r bs (after-run r os) in
-    kept r q (map step-of os ++ pump-steps ls) (answers r os fresh-chassis ++ all-accepted ls) empty-ledger
+    after-steps r q (map step-of os ++ pump-steps ls) (answers r os fresh-chassis ++ all-accepted ls) empty-ledger

@@ -6,7 +6,7 @@ use Rattle.protocol.specs.Chassis.{Chassis, Offer, read-value, read-hold
 use Rattle.protocol.specs.Runs.{after-run}
 use Rattle.protocol.specs.Pending.{pump, all-waiting, after-pumps, ledger-after-pumps}
 use Rattle.protocol.specs.PendingLaws.{pump-empties, session-invariant}
-use Rattle.protocol.specs.Arrivals.{kept-arrivals}
+use Rattle.protocol.specs.Arrivals.{after-steps-arrivals}
 use Rattle.protocol.specs.Agreement.{same-received-agree, received-all}
 
 one-more-call : (r b : ℕ) (bs : List ℕ) (st : Chassis) → after-pumps r (bs ++ b ∷ []) st ≡ pump r b (after-pumps r bs st) .state
@@ -21,6 +21,6 @@ session-agrees r q b i j os bs enough m n =
     let all = pump-empties r b (after-pumps r bs (after-run r os)) enough in
     let k = rw (one-more-call r b bs (after-run r os)) at (session-invariant r os (bs ++ b ∷ []) q) in
     let l = ledger-after-pumps r q os (bs ++ b ∷ []) in
-    let same = same-received-agree r q _ l k (kept-arrivals r q _ _) i j
+    let same = same-received-agree r q _ l k (after-steps-arrivals r q _ _) i j
     (λ s near. received-all r q _ l k i m (all i) s near ∙ sym (received-all r q _ l k j n (all j) s near)) in
     (same .value, same .holders)

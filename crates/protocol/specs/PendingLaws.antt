@@ -9,10 +9,10 @@ use native.Mathlib.Omega.{arith}
 use lib.ListN.{length, take}
 use Rattle.protocol.specs.Cases.{by-place}
 use Rattle.protocol.specs.Tables.{put, put-same, put-other}
-use Rattle.protocol.specs.Ledger.{empty-ledger, kept}
+use Rattle.protocol.specs.Ledger.{empty-ledger, after-steps}
 use Rattle.protocol.specs.Chassis.{Chassis, fresh-chassis, delivered, done, Offer, accepted, stepped, run, answers}
 use Rattle.protocol.specs.Runs.{step-of, after-run, ledger-after, all-accepted}
-use Rattle.protocol.specs.Steps.{Ok, taken-N}
+use Rattle.protocol.specs.InvariantSteps.{Invariant, taken-N}
 use Rattle.protocol.specs.Theorem.{run-invariant}
 use Rattle.protocol.specs.RoundRobin.{Link, IsLink, times, replayed, AllDeliver, Orderly}
 use Rattle.protocol.specs.RoundRobinLaws.{by-link}
@@ -20,7 +20,7 @@ use Rattle.protocol.specs.RoundRobinMade.{times-none, times-this, times-
 use Rattle.protocol.specs.RoundRobinEnd.{stops, drained, never-passed}
 use Rattle.protocol.specs.RoundRobinBound.{served-within}
 use Rattle.protocol.specs.Pending.{deliver-offer, chassis-links, offers, pump, all-waiting, after-pumps, pumped, ledger-after-pumps}
-use Rattle.protocol.specs.RunLaws.{run-append, answers-append}
+use Rattle.protocol.specs.RunsLaws.{run-append, answers-append}
 use Rattle.protocol.specs.Enabled.{deliverable}
 
 -- ---- one delivery
@@ -165,9 +165,9 @@ module _ (r : ℕ) where
     session-ledger : (q : ℕ) → ledger-after-pumps r q os bs ≡ ledger-after r q (os ++ offers (pumped r bs (after-run r os)))
     session-ledger q =
         let ls = pumped r bs (after-run r os) in
-        ap₂ (λ ss fs. kept r q ss fs empty-ledger)
+        ap₂ (λ ss fs. after-steps r q ss fs empty-ledger)
         (ap (λ ss. map step-of os ++ ss) (sym (map-map step-of _ ls)) ∙ sym (map-append step-of os (offers ls)))
         (ap (λ fs. answers r os fresh-chassis ++ fs) (sym (pumps-accepted bs (after-run r os))) ∙ sym (answers-append r os (offers ls) fresh-chassis))
 
-    pub session-invariant : (q : ℕ) → Ok r q (after-pumps r bs (after-run r os)) (ledger-after-pumps r q os bs)
+    pub session-invariant : (q : ℕ) → Invariant r q (after-pumps r bs (after-run r os)) (ledger-after-pumps r q os bs)
     session-invariant q = rw (session-run, session-ledger q) (run-invariant r q (os ++ offers (pumped r bs (after-run r os))))

@@ -1,5 +1,5 @@
 -- LAWS. No refusal 2 and no refusal 10 in a run: whatever waits is plausible to its receiver, and every row is well-formed. Both follow from
--- the invariant (`Ok`) alone, so a run that is followed step by step has them too.
+-- the invariant (`Invariant`) alone, so a run that is followed step by step has them too.
 use Prim.Native.Nat.{ℕ, zero, suc, _+_, _≤_, _<_}
 use mathlib.Core.Path.{_≡_, refl}
 use mathlib.Core.List.{List, [], _∷_, _++_, map}
@@ -16,14 +16,14 @@ use Rattle.protocol.specs.Chain as chain
 use Rattle.protocol.specs.Chain.{Note, inc, clr, no-note, Target, cleared-entry, wire, after, mark-from, mark-at, OwnWithin, OnChain, mark-proper, mark-suc, note-ok}
 use Rattle.protocol.specs.Pairs.{chain-proper, chain-before-end, on-chain-at}
 use Rattle.protocol.specs.Cards.{TargetsOn}
-use Rattle.protocol.specs.Steps.{Ok}
+use Rattle.protocol.specs.InvariantSteps.{Invariant}
 use Rattle.protocol.specs.Links.{outside-N}
 use Rattle.protocol.specs.Theorem.{run-invariant}
 use Rattle.protocol.specs.Runs.{after-run, ledger-after}
 pub use Rattle.protocol.specs.Rows.{Plausible, PlausibleEntries}
 pub use Rattle.protocol.specs.Runs.{StepByOne, AmountsOne}
 
-module _ (r q : ℕ) (st : Chassis) (l : Ledger) (k : Ok r q st l) where
+module _ (r q : ℕ) (st : Chassis) (l : Ledger) (k : Invariant r q st l) where
   C-is : (i j : ℕ) → st .replica i .C j ≡ mark-at (st .replica i .N j) (k .notes j) .units
   C-is i j = k .cards i .pairs j .C-is
 
@@ -111,7 +111,7 @@ units≤count q h ones (suc n) l =
 abbrev pub Ones : Chassis → Type 0
 Ones st = (j n : ℕ) → units-of (getD (st .log j) n no-message) ≤ 1
 
-pub C≤N : (r q : ℕ) (st : Chassis) (l : Ledger) → Ok r q st l → Ones st → (i j : ℕ) → st .replica i .C j ≤ st .replica i .N j
+pub C≤N : (r q : ℕ) (st : Chassis) (l : Ledger) → Invariant r q st l → Ones st → (i j : ℕ) → st .replica i .C j ≤ st .replica i .N j
 C≤N r q st l k ones i j =
     rw (C-is r q st l k i j)
     (units≤count q (k .notes j)
@@ -180,7 +180,7 @@ run-well-formed r q i most os ones fits = record {
     l : Ledger
     l = ledger-after r q os
 
-    k : Ok r q (after-run r os) (ledger-after r q os)
+    k : Invariant r q (after-run r os) (ledger-after r q os)
     k = run-invariant r q os
 
     made : (n : ℕ) → after-run r os .replica n .N n ≤ most

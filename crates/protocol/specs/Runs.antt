@@ -3,7 +3,7 @@
 use Prim.Native.Nat.{ℕ, _≤_}
 use mathlib.Core.Bool.{Bool, true}
 use mathlib.Core.List.{List, [], _∷_, map}
-use Rattle.protocol.specs.Ledger.{Step, count, clear, deliver, Ledger, empty-ledger, kept}
+use Rattle.protocol.specs.Ledger.{Step, count, clear, deliver, Ledger, empty-ledger, after-steps}
 use Rattle.protocol.specs.Chassis.{Chassis, fresh-chassis, Offer, run, answers}
 
 abbrev pub step-of : Offer → Step
@@ -15,7 +15,7 @@ after-run r os = run r os fresh-chassis
 
 -- "It is fed the list's steps in order and told which of them were accepted (number 0)."
 abbrev pub ledger-after : ℕ → ℕ → List Offer → Ledger
-ledger-after r q os = kept r q (map step-of os) (answers r os fresh-chassis) empty-ledger
+ledger-after r q os = after-steps r q (map step-of os) (answers r os fresh-chassis) empty-ledger
 
 -- as many flags as the list has elements, each "accepted"
 abbrev pub all-accepted {ℓ} : {A : Type ℓ} → List A → List Bool

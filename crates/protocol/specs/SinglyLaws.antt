@@ -13,18 +13,18 @@ use Rattle.protocol.specs.Tables.{put, put-same, put-at, put-other, put-
 use Rattle.protocol.specs.Ledger as ledger
 use Rattle.protocol.specs.Ledger.{Ledger, Step, count, clear, deliver, empty-ledger}
 use Rattle.protocol.specs.Chassis.{Message, increment, clearing, no-message, Chassis, fresh-chassis, enabled, Offer, accepted, stepped, run, counter-of}
-use Rattle.protocol.specs.Steps.{Ok}
-use Rattle.protocol.specs.Theorem.{fresh-ok, step-ok, run-invariant}
+use Rattle.protocol.specs.InvariantSteps.{Invariant}
+use Rattle.protocol.specs.Theorem.{fresh-invariant, step-invariant, run-invariant}
 use Rattle.protocol.specs.Links.{own-N-is}
 use Rattle.protocol.specs.Runs.{after-run, ledger-after}
 use Rattle.protocol.specs.Algorithm1.{Slot, p-of, n-of, c-of, Update, reset-generator, inc-generator, effector, slot-of}
 use Rattle.protocol.specs.Algorithm1Laws.{Whole, well-formed-whole, slot-p, slot-n, slot-c}
 use Rattle.protocol.specs.Entry.{Entry}
 use Rattle.protocol.specs.EntryLaws.{entry-is}
-use Rattle.protocol.specs.InARow.{effectors, inc-generators, Instances, instance, Lot, effected, System, initial, made, next-lot, rest-lots, handed, entered, fed, instances-of, singles, updates-of}
+use Rattle.protocol.specs.InARow.{effectors, inc-generators, Instances, instance, Lot, effected, System, initial, made, next-lot, rest-lots, handed, after-accepted, after-step, instances-of, singles, updates-of}
 use Rattle.protocol.specs.InARowRuns.{well-formed, lot-of, instances-are, Same, fresh-same, its-message, link, step-same}
 use Rattle.protocol.specs.Singly.{times, singles-in, single-steps, expanded, in-single-steps}
-use Rattle.protocol.specs.RunLaws.{run-append}
+use Rattle.protocol.specs.RunsLaws.{run-append}
 use Rattle.protocol.specs.Enabled.{count-enabled, deliver-enabled, deliverable}
 
 abbrev lot : ℕ → List Update → Lot
@@ -147,21 +147,21 @@ handed-flat i s q us rest x y e k =
 
 record Reached (r : ℕ) (x : System) (st : Chassis) : Type 0 where
   ledgers : ℕ → Ledger
-  oks : (q : ℕ) → Ok r q st (ledgers q)
+  invariants : (q : ℕ) → Invariant r q st (ledgers q)
   same : Same x st
 
-reached-step : (r : ℕ) (x : System) (st : Chassis) (o : Offer) → Reached r x st → Reached r (fed r (o .step) (accepted r o st) x) (stepped r o st)
+reached-step : (r : ℕ) (x : System) (st : Chassis) (o : Offer) → Reached r x st → Reached r (after-step r (o .step) (accepted r o st) x) (stepped r o st)
 reached-step r x st o h = record {
-  ledgers = λ q. ledger.fed r q (o .step) (accepted r o st) (h .ledgers q);
-  oks = λ q. step-ok r q o st (h .ledgers q) (h .oks q);
-  same = step-same r x st (h .ledgers) (h .oks) (h .same) o;
+  ledgers = λ q. ledger.after-step r q (o .step) (accepted r o st) (h .ledgers q);
+  invariants = λ q. step-invariant r q o st (h .ledgers q) (h .invariants q);
+  same = step-same r x st (h .ledgers) (h .invariants) (h .same) o;
 }
 
 abbrev willing : Step → Offer
 willing s = record { step = s; willing = true }
 
-reached-done : (r : ℕ) (x : System) (st : Chassis) (s : Step) → enabled r s st ≡ true → Reached r x st → Reached r (entered r s x) (stepped r (willing s) st)
-unfolding fed
+reached-done : (r : ℕ) (x : System) (st : Chassis) (s : Step) → enabled r s st ≡ true → Reached r x st → Reached r (after-accepted r s x) (stepped r (willing s) st)
+unfolding after-step
 reached-done r x st s e h = rw e at (reached-step r x st (willing s) h)
 
 -- w counts by 1
@@ -176,7 +176,7 @@ one-count r i q st below = and-yes (ltb i r) (ltb 0 1) (lt-ltb i r below) refl
 
 counts-reached : (r i q w : ℕ) (y : System) (st : Chassis) → i < r → Reached r y st
     → Reached r (made-singly i q (inc-generators i w (instance q (y .replica i))) y) (run r (times w (count i q 1)) st)
-unfolding inc-generators made-singly times run entered
+unfolding inc-generators made-singly times run after-accepted
 counts-reached r i q zero y st below h = h
 counts-reached r i q (suc w) y st below h =
     let u = inc-generator i (instance q (y .replica i)) in
@@ -197,12 +197,12 @@ some-waits y st i s first rest k apart e =
 one-delivery : (r i s : ℕ) (y : System) (st : Chassis) (first : Lot) (rest : List Lot) → Reached r y st → i < r → s < r → (i ≡ s → ⊥) → y .queue s i ≡ first ∷ rest
     → enabled r (deliver i s) st ≡ true
 one-delivery r i s y st first rest h hi hs apart e =
-    let waits : st .replica i .N s < st .replica s .N s = rw (own-N-is r 0 st (h .ledgers 0) (h .oks 0) s) (some-waits y st i s first rest (h .same) apart e) in
+    let waits : st .replica i .N s < st .replica s .N s = rw (own-N-is r 0 st (h .ledgers 0) (h .invariants 0) s) (some-waits y st i s first rest (h .same) apart e) in
     deliverable r i s st (record { receiver = hi; sender = hs; apart = apart; waits = waits })
 
 deliveries-reached : (r i s q : ℕ) (us : List Update) (rest : List Lot) (y : System) (st : Chassis) → i < r → s < r → (i ≡ s → ⊥) → y .queue s i ≡ split q us ++ rest
     → Reached r y st → Reached r (handed-singly i s (length us) y) (run r (times (length us) (deliver i s)) st)
-unfolding handed-singly times run entered split
+unfolding handed-singly times run after-accepted split
 deliveries-reached r i s q [] rest y st hi hs apart e h = h
 deliveries-reached r i s q (u ∷ us) rest y st hi hs apart e h =
     deliveries-reached r i s q us rest (handed i s y) (stepped r (willing (deliver i s)) st) hi hs apart (rest-stays i s y _ _ e)
@@ -229,9 +229,9 @@ updates-length s (clearing q ts) = refl
 
 module _ (r : ℕ) (st st′ : Chassis) (b : Both r st st′) where
   count-both : (i q w : ℕ) → enabled r (count i q w) st ≡ true → Both r (stepped r (willing (count i q w)) st) (run r (times w (count i q 1)) st′)
-  unfolding entered
+  unfolding after-accepted
   count-both i q w e = record {
-    x = entered r (count i q w) (b .x);
+    x = after-accepted r (count i q w) (b .x);
     y = made-singly i q (inc-generators i w (instance q (b .y .replica i))) (b .y);
     here = reached-done r (b .x) st (count i q w) e (b .here);
     there = counts-reached r i q w (b .y) st′ (count-enabled r i q w st e .0) (b .there);
@@ -239,10 +239,10 @@ module _ (r : ℕ) (st st′ : Chassis) (b : Both r st st′) where
   }
 
   clear-both : (i q : ℕ) → enabled r (clear i q) st ≡ true → Both r (stepped r (willing (clear i q)) st) (run r (times 1 (clear i q)) st′)
-  unfolding enabled entered times run made-singly
+  unfolding enabled after-accepted times run made-singly
   clear-both i q e = record {
-    x = entered r (clear i q) (b .x);
-    y = entered r (clear i q) (b .y);
+    x = after-accepted r (clear i q) (b .x);
+    y = after-accepted r (clear i q) (b .y);
     here = reached-done r (b .x) st (clear i q) e (b .here);
     there = reached-done r (b .y) st′ (clear i q) e (b .there);
     apart = rw (b .apart .replicas i) (made-flat i q (reset-generator r (instance q (b .x .replica i)) ∷ []) (b .x) (b .y) (b .apart));
@@ -250,10 +250,10 @@ module _ (r : ℕ) (st st′ : Chassis) (b : Both r st st′) where
 
   deliver-both : (i s : ℕ) → enabled r (deliver i s) st ≡ true
       → Both r (stepped r (willing (deliver i s)) st) (run r (times (singles-in (getD (st .log s) (st .replica i .N s) no-message)) (deliver i s)) st′)
-  unfolding entered its-message flat
+  unfolding after-accepted its-message flat
   deliver-both i s e =
       let on = deliver-enabled r i s st e in
-      let waits₁ : st .replica i .N s < length (st .log s) = rw (own-N-is r 0 st (b .here .ledgers 0) (b .here .oks 0) s) at (on .waits) in
+      let waits₁ : st .replica i .N s < length (st .log s) = rw (own-N-is r 0 st (b .here .ledgers 0) (b .here .invariants 0) s) at (on .waits) in
       let m = getD (st .log s) (st .replica i .N s) no-message in
       let turn = link (b .x) st (b .here .same) i s (on .apart) waits₁ in
       let rest = map (lot-of s) (drop (suc (st .replica i .N s)) (st .log s)) in
@@ -288,7 +288,7 @@ run-both r (o ∷ os) st st′ b =
 fresh-both : (r : ℕ) → Both r fresh-chassis fresh-chassis
 unfolding flat
 fresh-both r =
-    let begin : Reached r initial fresh-chassis = record { ledgers = λ q. empty-ledger; oks = λ q. fresh-ok r q; same = fresh-same } in
+    let begin : Reached r initial fresh-chassis = record { ledgers = λ q. empty-ledger; invariants = λ q. fresh-invariant r q; same = fresh-same } in
     record { x = initial; y = initial; here = begin; there = begin; apart = record { replicas = λ i. refl; queues = λ s i. refl } }
 
 single-run : (r i : ℕ) (os : List Offer) → instances-of (after-run r (in-single-steps r os) .replica i) ≡ instances-of (after-run r os .replica i)

@@ -4,24 +4,24 @@
 // MAX of document 01: 2^48 - 1.
 pub const MAX: u64 = 281474976710655;
 
-pub const CARD_LIMIT: u64 = 16;
+pub const MOST_CARDS: u64 = 16;
 
-pub const COUNTER_LIMIT: u64 = 64;
+pub const MOST_COUNTERS: u64 = 64;
 
 // The refusals, in the order of document 01's table.
-pub const WRONG_REPLICA: u64 = 1;
+pub const BAD_REPLICA: u64 = 1;
 
-pub const NOT_WELL_FORMED: u64 = 2;
+pub const BAD_ROW: u64 = 2;
 
-pub const NO_SUCH_COUNTER: u64 = 3;
+pub const BAD_COUNTER: u64 = 3;
 
-pub const NO_MORE_MESSAGES: u64 = 4;
+pub const EXHAUSTED: u64 = 4;
 
-pub const OUTPUT_TOO_SHORT: u64 = 5;
+pub const SHORT_OUTPUT: u64 = 5;
 
 pub const UNREADABLE: u64 = 6;
 
-pub const NO_SUCH_CARD: u64 = 7;
+pub const BAD_CARD: u64 = 7;
 
 pub const REPEATED: u64 = 8;
 
@@ -29,13 +29,13 @@ pub const EARLY: u64 = 9;
 
 pub const IMPLAUSIBLE: u64 = 10;
 
-pub const WRONG_SIZES: u64 = 11;
+pub const BAD_SIZES: u64 = 11;
 
-pub const NO_SUCH_STEP: u64 = 12;
+pub const BAD_KIND: u64 = 12;
 
-pub const NONE_WAITING: u64 = 13;
+pub const NOTHING_WAITING: u64 = 13;
 
-pub const LOG_TOO_SHORT: u64 = 14;
+pub const LOG_FULL: u64 = 14;
 
 // A replica's entry for one counter and one card: (p, n, c) of Algorithm 1, zeros where it is absent.
 pub struct Entry {

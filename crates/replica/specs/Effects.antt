@@ -13,11 +13,11 @@ use Rattle.protocol.specs.declared.Entry.{Entry}
 use Rattle.protocol.specs.declared.ClearEntry.{ClearEntry}
 use Rattle.protocol.specs.Entry.{present, incremented, cleared}
 use Rattle.protocol.specs.Chassis.{increment, clearing, present-entries}
-use Rattle.protocol.specs.Stores.{CardsBelow, cleared-words, taken-words}
+use Rattle.protocol.specs.StoreLaws.{CardsBelow, cleared-words, taken-words}
 use Rattle.wire.specs.Message.{no-entry}
 use Rattle.replica_model.specs.Layout.{head, at-C, at-N, C-of, N-of, entry-of, set-C, set-N, set-entry}
-use Rattle.replica_model.specs.Store.{layout, C-entry, three-length}
-use Rattle.replica.specs.Rows.{Row, row-set-entry}
+use Rattle.replica_model.specs.LayoutLaws.{layout, C-entry, set-three-length}
+use Rattle.replica.specs.RowFacts.{Row, row-set-entry}
 
 -- the largest that a word can hold
 abbrev pub last-word : ℕ
@@ -89,7 +89,7 @@ module _ (r k : ℕ) where
           receives = receives-entry b′ r q j _ _ (h .receives);
           left = rw (add-one i) ((rw (drop-cons es i no-entry l) at (h .left)) .1);
           same = rw (add-one i) (rw (drop-cons es i no-entry l) at (h .same));
-          long = three-length b′ _ _ _ _ ∙ h .long;
+          long = set-three-length b′ _ _ _ _ ∙ h .long;
         }
 
       pub clearing-ends : length es ≤ i → b′ ≡ cleared-words r k (layout r k) q es b

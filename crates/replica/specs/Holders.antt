@@ -6,7 +6,7 @@ use mathlib.Core.Bool.{cond}
 use lib.Count.{ones}
 use Rattle.protocol.specs.Entry.{present}
 use Rattle.protocol.specs.Chassis.{read-holders}
-use Rattle.protocol.specs.Stores.{shown}
+use Rattle.protocol.specs.StoreLaws.{shown}
 use Rattle.replica_model.specs.Layout.{cards, entry-of}
 use Rattle.replica_model.specs.Calls.{reading}
 use Rattle.replica.specs.Sums.{bits-at, bits-below, ones-bits}
@@ -23,6 +23,6 @@ module _ (b : List ℕ) (q : ℕ) where
   holders-below = bits-below (cards b) (λ j. present (entry-of (cards b) b q j))
 
   -- The number of holders is the count of ones in the holders.
-  pub holders-counted : reading b q .count ≡ ones (reading b q .holders)
+  pub holders-counted : reading b q .«holder_count» ≡ ones (reading b q .holders)
   unfolding reading read-holders shown
   holders-counted = sym (ones-bits (cards b) (λ j. present (entry-of (cards b) b q j)))

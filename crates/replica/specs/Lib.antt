@@ -1,4 +1,4 @@
-pub mod Rows
+pub mod RowFacts
 pub mod Sums
 pub mod Holders
 pub mod Effects

@@ -9,21 +9,21 @@ use lib.ListN.{length, take, replicate}
 use lib.Seq.{take-append-seam}
 use lib.Dec.{ltb, eqb}
 use borrow.Author.Tests.{not-true, ltb-true, eqb-false, le-leb, lt-leb}
-use Rattle.protocol.specs.Limits.{MAX, wrong-replica, not-well-formed, no-such-counter, no-more-messages, output-too-short}
+use Rattle.protocol.specs.Limits.{MAX, bad-replica, bad-row, bad-counter, exhausted, short-output}
 use Rattle.protocol.specs.declared.Entry.{Entry}
 use Rattle.protocol.specs.declared.ClearEntry.{ClearEntry}
 use Rattle.protocol.specs.Entry.{present, count-starts, count-p}
 use Rattle.protocol.specs.Chassis.{increment, clearing, count-message, clear-message, present-entries}
-use Rattle.protocol.specs.Stores.{CardsBelow, shown, taken-words}
+use Rattle.protocol.specs.StoreLaws.{CardsBelow, shown, taken-words}
 use Rattle.wire.specs.declared.Message as wire
 use Rattle.wire.specs.Message as form
 use Rattle.wire.specs.Message.{increment-message, message-bytes, no-entry, over}
 use Rattle.replica_model.specs.declared.Sent.{Sent}
 use Rattle.replica_model.specs.Layout.{cards, counters, own-card, C-of, N-of, entry-of}
-use Rattle.replica_model.specs.Store.{layout}
+use Rattle.replica_model.specs.LayoutLaws.{layout}
 use Rattle.replica_model.specs.Calls.{check, right, row-well-formed, state, SendOutcome, not-sent, sent, sending}
 use Rattle.replica_model.specs.RowLaws.{right-facts}
-use Rattle.replica.specs.Rows.{Row, row, Card, card-facts}
+use Rattle.replica.specs.RowFacts.{Row, row, Card, card-facts}
 use Rattle.replica.specs.Effects.{Receives, flag-is, present-few}
 
 -- a call that declines: "number, zeros"
@@ -35,12 +35,12 @@ no-sent number = record { number = number; sequence = 0; length = 0 }
 -- the number of the first that fails, 0 where none does
 unfoldable pub send-refusal : List ℕ → ℕ → ℕ
 send-refusal b q =
-    check (right b) wrong-replica
-    (check (ltb q (counters b)) no-such-counter
-    (check (row-well-formed b q) not-well-formed
-    (check (not (eqb (N-of (cards b) b (own-card b)) MAX)) no-more-messages 0)))
+    check (right b) bad-replica
+    (check (ltb q (counters b)) bad-counter
+    (check (row-well-formed b q) bad-row
+    (check (not (eqb (N-of (cards b) b (own-card b)) MAX)) exhausted 0)))
 
-all-pass : (t u v w : Bool) → check t wrong-replica (check u no-such-counter (check v not-well-formed (check w no-more-messages 0))) ≡ 0
+all-pass : (t u v w : Bool) → check t bad-replica (check u bad-counter (check v bad-row (check w exhausted 0))) ≡ 0
     → (t ≡ true) × (u ≡ true) × (v ≡ true) × (w ≡ true)
 all-pass true true true true e = (refl, refl, refl, refl)
 all-pass true true true false e = absurd (omega arith)
@@ -49,9 +49,9 @@ all-pass true false v w e = absurd (omega arith)
 all-pass false u v w e = absurd (omega arith)
 
 one-fails : (t u v w : Bool) (b out : List ℕ) (next : SendOutcome)
-    → (check t wrong-replica (check u no-such-counter (check v not-well-formed (check w no-more-messages 0))) ≡ 0 → ⊥)
-    → check t (not-sent wrong-replica b out) (check u (not-sent no-such-counter b out) (check v (not-sent not-well-formed b out) (check w (not-sent no-more-messages b out) next)))
-    ≡ not-sent (check t wrong-replica (check u no-such-counter (check v not-well-formed (check w no-more-messages 0)))) b out
+    → (check t bad-replica (check u bad-counter (check v bad-row (check w exhausted 0))) ≡ 0 → ⊥)
+    → check t (not-sent bad-replica b out) (check u (not-sent bad-counter b out) (check v (not-sent bad-row b out) (check w (not-sent exhausted b out) next)))
+    ≡ not-sent (check t bad-replica (check u bad-counter (check v bad-row (check w exhausted 0)))) b out
 one-fails true true true true b out next d = absurd (d refl)
 one-fails true true true false b out next d = refl
 one-fails true true false w b out next d = refl
@@ -134,12 +134,12 @@ abbrev pub was-sent : ℕ → ℕ → List ℕ → List ℕ → SendOutcome
 was-sent sequence long words out = record { answer = record { number = 0; sequence = sequence; length = long }; words = words; out = out }
 
 module _ (b out : List ℕ) (r q : ℕ) (h : Sends b r q) where
-  pub count-too-long : length out < 36 → not-sent output-too-short b out ≡ sent b out (count-message (own-card b) q 1 (state b))
+  pub count-too-long : length out < 36 → not-sent short-output b out ≡ sent b out (count-message (own-card b) q 1 (state b))
   unfolding sent increment-message
   count-too-long l = rw (count-sends b q, lt-leb 36 (length out) l)
 
   pub clear-too-long : (long : ℕ) → long ≡ 28 + 20 * length (present-entries r (entry-of r b q)) → length out < long
-      → not-sent output-too-short b out ≡ sent b out (clear-message (cards b) q (state b))
+      → not-sent short-output b out ≡ sent b out (clear-message (cards b) q (state b))
   unfolding sent form.clear-message
   clear-too-long long e l = rw (clear-sends b q, ← (h .row .first), lt-leb _ (length out) (rw e at l))
 

@@ -9,24 +9,24 @@ use lib.Dec.{leb, ltb, eqb}
 use lib.ListN.{length, take, replicate}
 use lib.Seq.{take-append-seam}
 use borrow.Author.Tests.{ltb-true, ne-eqb}
-use Rattle.protocol.specs.Limits.{card-limit, not-well-formed, no-such-counter, no-such-card, repeated, early, implausible}
+use Rattle.protocol.specs.Limits.{most-cards, bad-row, bad-counter, bad-card, repeated, early, implausible}
 use Rattle.protocol.specs.Cases.{by-place, and-left, and-right}
 use Rattle.protocol.specs.declared.ClearEntry.{ClearEntry}
 use Rattle.protocol.specs.Chassis.{increment, clearing}
-use Rattle.protocol.specs.Stores.{CardsBelow, taken-words}
+use Rattle.protocol.specs.StoreLaws.{CardsBelow, taken-words}
 use Rattle.wire.specs.declared.Message as wire
 use Rattle.wire.specs.Number.{int-at, hyper-at}
 use Rattle.wire.specs.Message.{no-entry, entry-at, entries-at, increment-kind, clear-kind, increment-message, clear-message, reads, message-at}
 use Rattle.wire.specs.declared.reader.Header.{Header}
-use Rattle.wire.specs.Parts.{header-at}
-use Rattle.wire.specs.PartsLaws.{header-read}
+use Rattle.wire.specs.MessageParts.{header-at}
+use Rattle.wire.specs.MessagePartsLaws.{header-read}
 use Rattle.wire.specs.EntriesLaws.{entries-at-more}
 use Rattle.wire.specs.Bounds.{BodyBounds, bounds, len-few}
 use Rattle.wire.specs.Bounds as by-kind
 use Rattle.wire.specs.RoundTrips.{readable, read-clear, read-increment}
 use Rattle.replica_model.specs.Layout.{cards, counters, own-card, at-C, C-of, N-of}
-use Rattle.replica_model.specs.Store.{layout}
-use Rattle.replica.specs.Rows.{Row, Card, row, card-facts}
+use Rattle.replica_model.specs.LayoutLaws.{layout}
+use Rattle.replica.specs.RowFacts.{Row, Card, row, card-facts}
 use Rattle.replica.specs.Effects.{Receives}
 use Rattle.replica_model.specs.declared.Taken.{Taken}
 use Rattle.replica_model.specs.Calls.{check, right, row-well-formed, TakeOutcome, not-taken, content, all-entries, cards-known, increment-implausible, entry-plausible, plausible, taking}
@@ -92,16 +92,16 @@ no-taken number = record { number = number; sequence = 0 }
 -- 3, 2, 7, 8 and 9: the number of the first that applies, 0 where none does; `known` says whether every entry names a card below r
 unfoldable pub refusal : List ℕ → ℕ → ℕ → ℕ → Bool → ℕ
 refusal b q sender sequence known =
-    check (ltb q (counters b)) no-such-counter
-    (check (row-well-formed b q) not-well-formed
-    (check (ltb sender (cards b) && not (eqb sender (own-card b)) && known) no-such-card
+    check (ltb q (counters b)) bad-counter
+    (check (row-well-formed b q) bad-row
+    (check (ltb sender (cards b) && not (eqb sender (own-card b)) && known) bad-card
     (check (ltb (N-of (cards b) b sender) sequence) repeated
     (check (leb sequence (N-of (cards b) b sender + 1)) early 0))))
 
 -- five checks, each with its number: a refusal, whatever it is made of the number, and what comes behind
 refused-by : {A : Type 0} (f : ℕ → A) (x : A) (s t u v w : Bool) (n : ℕ)
-    → n ≡ check s no-such-counter (check t not-well-formed (check u no-such-card (check v repeated (check w early 0)))) → (n ≡ 0 → ⊥)
-    → f n ≡ check s (f no-such-counter) (check t (f not-well-formed) (check u (f no-such-card) (check v (f repeated) (check w (f early) x))))
+    → n ≡ check s bad-counter (check t bad-row (check u bad-card (check v repeated (check w early 0)))) → (n ≡ 0 → ⊥)
+    → f n ≡ check s (f bad-counter) (check t (f bad-row) (check u (f bad-card) (check v (f repeated) (check w (f early) x))))
 refused-by f x false t u v w n e d = ap f e
 refused-by f x true false u v w n e d = ap f e
 refused-by f x true true false v w n e d = ap f e
@@ -109,7 +109,7 @@ refused-by f x true true true false w n e d = ap f e
 refused-by f x true true true true false n e d = ap f e
 refused-by f x true true true true true n e d = absurd (d e)
 
-passed : (s t u v w : Bool) → check s no-such-counter (check t not-well-formed (check u no-such-card (check v repeated (check w early 0)))) ≡ 0
+passed : (s t u v w : Bool) → check s bad-counter (check t bad-row (check u bad-card (check v repeated (check w early 0)))) ≡ 0
     → (s ≡ true) × (t ≡ true) × (u ≡ true) × (v ≡ true) × (w ≡ true)
 passed false t u v w e = absurd (omega arith)
 passed true false u v w e = absurd (omega arith)
@@ -247,7 +247,7 @@ module _ (s : List ℕ) (h : reads s ≡ true) where
     pub sender : header .sender ≡ message-at s .sender
     pub sequence : header .sequence ≡ message-at s .sequence
     pub counter : header .counter ≡ message-at s .counter
-    pub few : message-at s .len ≤ card-limit
+    pub few : message-at s .len ≤ most-cards
     pub entries : entries-at (int-at s 24) s 28 ≡ take (message-at s .len) (message-at s .entries)
 
   pub clear-read : (header : Header) → header ≡ header-at s 0 → header .kind ≡ clear-kind → ClearRead header

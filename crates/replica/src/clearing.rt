@@ -49,7 +49,7 @@ fn send_clear(words: &mut [u64], r: usize, q: usize, out: &mut [u8]) -> Sent
     m.len = len;
     let length = wire::encode::length_of(wire::CLEAR, len);
     if out.len() < length {
-        return sending::refused(protocol::OUTPUT_TOO_SHORT);
+        return sending::refused(protocol::SHORT_OUTPUT);
     }
     wire::encode::put_clear(m, out);
     effect::apply_clear(words, r, q, own, m);

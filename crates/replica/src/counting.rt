@@ -29,8 +29,8 @@ fn send_increment(words: &mut [u64], r: usize, q: usize, out: &mut [u8]) -> Sent
     requires { ⌜ Sends (now words) r q ⌝ }
     ensures { λ a. ⌜ _≡_ {A = SendOutcome} (record { answer = a; words = now (words .exit); out = now (out .exit) }) (sent (now (words .entry)) (now (out .entry)) (count-message (own-card (now (words .entry))) q 1 (state (now (words .entry))))) ⌝ }
 {
-    if out.len() < wire::INCREMENT_LENGTH {
-        return sending::refused(protocol::OUTPUT_TOO_SHORT);
+    if out.len() < wire::INCREMENT_BYTES {
+        return sending::refused(protocol::SHORT_OUTPUT);
     }
     let own = words::own_card(words);
     let e = words::entry_at(words, r, q, own);
@@ -43,7 +43,7 @@ fn send_increment(words: &mut [u64], r: usize, q: usize, out: &mut [u8]) -> Sent
     Sent {
         number: 0,
         sequence,
-        length: wire::INCREMENT_LENGTH as u64,
+        length: wire::INCREMENT_BYTES as u64,
     }
 }
 

@@ -10,10 +10,10 @@ ghost use Prim.Native.Nat.{max, _-_, _+_, _≤_, _<_};
 ghost use lib.ListN.{length, take};
 ghost use Rattle.protocol.specs.Entry.{present, larger, removeIf, finished, settled, incremented, cleared};
 ghost use Rattle.protocol.specs.Chassis.{increment, clearing};
-ghost use Rattle.protocol.specs.Stores.{CardsBelow, taken-words};
+ghost use Rattle.protocol.specs.StoreLaws.{CardsBelow, taken-words};
 ghost use Rattle.replica_model.specs.Layout.{counters, at-N, C-of, N-of};
-ghost use Rattle.replica_model.specs.Store.{layout};
-ghost use Rattle.replica.specs.Rows.{Row};
+ghost use Rattle.replica_model.specs.LayoutLaws.{layout};
+ghost use Rattle.replica.specs.RowFacts.{Row};
 ghost use Rattle.replica.specs.Effects.{last-word, Receives, received, entry-cleared};
 
 const ABSENT: Entry = Entry { p: 0, n: 0, c: 0 };

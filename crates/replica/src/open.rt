@@ -41,7 +41,7 @@ pub fn open(words: &mut [u64], cards: u64, counters: u64, own: u64) -> u64
     ensures { λ a. ⌜ _≡_ {A = OpenOutcome} (record { number = a; words = now (words .exit) }) (open-on (now (words .entry)) cards counters own) ⌝ }
 {
     if !fits(words.len(), cards, counters, own) {
-        return protocol::WRONG_REPLICA;
+        return protocol::BAD_REPLICA;
     }
     write_fresh(words, cards, counters, own);
     0

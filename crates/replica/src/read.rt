@@ -6,7 +6,7 @@ ghost use mathlib.Core.Path.{_≡_};
 ghost use mathlib.Core.Bool.{true, cond};
 ghost use Rattle.protocol.specs.Entry.{present};
 ghost use Rattle.replica_model.specs.Calls.{row-well-formed, no-reading, reading, read-on};
-ghost use Rattle.replica.specs.Rows.{Row};
+ghost use Rattle.replica.specs.RowFacts.{Row};
 
 fn is_present(e: Entry) -> bool
     ensures { λ a. ⌜ a ≡ present e ⌝ }
@@ -33,7 +33,7 @@ fn refused(number: u64) -> Reading
         number,
         value: 0,
         holders: 0,
-        count: 0,
+        holder_count: 0,
     }
 }
 
@@ -55,7 +55,7 @@ fn row_reading(b: &[u64], r: usize, q: usize) -> Reading
         number: 0,
         value,
         holders: wide(holders),
-        count: u16::count_ones(holders) as u64,
+        holder_count: u16::count_ones(holders) as u64,
     }
 }
 
@@ -65,16 +65,16 @@ pub fn read(words: &[u64], counter: u64) -> Reading
     ensures { λ a. ⌜ a ≡ read-on (now (words .entry)) counter ⌝ }
 {
     if !words::is_right(words) {
-        return refused(protocol::WRONG_REPLICA);
+        return refused(protocol::BAD_REPLICA);
     }
     let r = words::cards_of(words);
     let k = words::counters_of(words);
     if k <= counter {
-        return refused(protocol::NO_SUCH_COUNTER);
+        return refused(protocol::BAD_COUNTER);
     }
     let q = words::index(counter);
     if words::is_row_well_formed(words, r, q) {
         return row_reading(words, r, q);
     }
-    refused(protocol::NOT_WELL_FORMED)
+    refused(protocol::BAD_ROW)
 }

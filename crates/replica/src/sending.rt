@@ -19,19 +19,19 @@ pub(crate) fn refusal(words: &[u64], counter: u64) -> u64
     ensures { λ a. ⌜ a ≡ send-refusal (now (words .entry)) counter ⌝ }
 {
     if !words::is_right(words) {
-        return protocol::WRONG_REPLICA;
+        return protocol::BAD_REPLICA;
     }
     let r = words::cards_of(words);
     let k = words::counters_of(words);
     if k <= counter {
-        return protocol::NO_SUCH_COUNTER;
+        return protocol::BAD_COUNTER;
     }
     if !words::is_row_well_formed(words, r, words::index(counter)) {
-        return protocol::NOT_WELL_FORMED;
+        return protocol::BAD_ROW;
     }
     let own = words::own_card(words);
     if words::messages_at(words, r, own) == protocol::MAX {
-        return protocol::NO_MORE_MESSAGES;
+        return protocol::EXHAUSTED;
     }
     0
 }

@@ -14,7 +14,7 @@ ghost use Prim.Native.Nat.{_≤_};
 ghost use lib.Dec.{ltb};
 ghost use Rattle.protocol.specs.Limits.{MAX};
 ghost use Rattle.wire.specs.Message.{increment-message, message-at, reads};
-ghost use Rattle.wire.specs.Parts.{header-at};
+ghost use Rattle.wire.specs.MessageParts.{header-at};
 ghost use Rattle.replica_model.specs.Layout.{cards, C-of};
 ghost use Rattle.replica_model.specs.Calls.{right, increment-implausible, TakeOutcome, taking, take-on};
 ghost use Rattle.replica.specs.Taking.{no-taken, refusal, entry-test};
@@ -69,15 +69,15 @@ fn refusal_of(b: &[u64], counter: u32, sender: u32, sequence: u64, known: bool) 
     ensures { λ a. ⌜ a ≡ refusal (now (b .entry)) counter sender sequence known ⌝ }
 {
     if words::counters_of(b) <= counter as u64 {
-        return protocol::NO_SUCH_COUNTER;
+        return protocol::BAD_COUNTER;
     }
     let r = words::cards_of(b);
     if !words::is_row_well_formed(b, r, counter as usize) {
-        return protocol::NOT_WELL_FORMED;
+        return protocol::BAD_ROW;
     }
     let j = sender as usize;
     if !((j < r) & (j != words::own_card(b)) & known) {
-        return protocol::NO_SUCH_CARD;
+        return protocol::BAD_CARD;
     }
     let received = words::messages_at(b, r, j);
     if sequence <= received {
@@ -168,7 +168,7 @@ pub fn take(words: &mut [u64], message: &[u8]) -> Taken
     ensures { λ a. ⌜ _≡_ {A = TakeOutcome} (record { answer = a; words = now (words .exit) }) (take-on (now (words .entry)) (now (message .entry))) ⌝ }
 {
     if !words::is_right(words) {
-        return refused(protocol::WRONG_REPLICA);
+        return refused(protocol::BAD_REPLICA);
     }
     if !decode::reads(message) {
         return refused(protocol::UNREADABLE);

@@ -5,9 +5,9 @@ ghost use mathlib.Core.Path.{_≡_};
 ghost use Prim.Native.Nat.{_+_, _*_, _≤_, _<_};
 ghost use lib.ListN.{length};
 ghost use lib.Dec.{leb};
-ghost use Rattle.replica_model.specs.Layout.{cards, counters, own-card, head, replica-length, at-C, at-N, at-entry, C-of, N-of, entry-from, entry-of, set-C, set-N, three, set-entry};
+ghost use Rattle.replica_model.specs.Layout.{cards, counters, own-card, head, replica-length, at-C, at-N, at-entry, C-of, N-of, entry-from, entry-of, set-C, set-N, set-three, set-entry};
 ghost use Rattle.replica_model.specs.Calls.{sizes-in-range, right, entry-well-formed, card-well-formed, row-well-formed};
-ghost use Rattle.replica.specs.Rows.{Row};
+ghost use Rattle.replica.specs.RowFacts.{Row};
 
 // The words before C: r, k and the own card.
 const HEAD: usize = 3;
@@ -32,7 +32,7 @@ pub fn replica_words(r: usize, k: usize) -> usize
 pub fn are_sizes_in_range(r: u64, k: u64) -> bool
     ensures { λ a. ⌜ a ≡ sizes-in-range r k ⌝ }
 {
-    (1 <= r) & (r <= protocol::CARD_LIMIT) & (1 <= k) & (k <= protocol::COUNTER_LIMIT)
+    (1 <= r) & (r <= protocol::MOST_CARDS) & (1 <= k) & (k <= protocol::MOST_COUNTERS)
 }
 
 // The first three words.
@@ -60,7 +60,7 @@ pub(crate) fn own_card(b: &[u64]) -> usize
 
 pub(crate) fn set_head(b: &mut [u64], r: u64, k: u64, own: u64)
     requires { ⌜ head ≤ length (now b) ⌝ }
-    ensures { λ _. ⌜ now (b .exit) ≡ three (now (b .entry)) 0 r k own ⌝ }
+    ensures { λ _. ⌜ now (b .exit) ≡ set-three (now (b .entry)) 0 r k own ⌝ }
 {
     b[0] = r;
     b[1] = k;
@@ -135,7 +135,7 @@ fn entry_from(b: &[u64], at: usize) -> Entry
 
 fn put_three(b: &mut [u64], at: usize, e: Entry)
     requires { ⌜ at + 2 < length (now b) ⌝ }
-    ensures { λ _. ⌜ now (b .exit) ≡ three (now (b .entry)) at (e .p) (e .n) (e .c) ⌝ }
+    ensures { λ _. ⌜ now (b .exit) ≡ set-three (now (b .entry)) at (e .p) (e .n) (e .c) ⌝ }
 {
     b[at] = e.p;
     b[at + 1] = e.n;

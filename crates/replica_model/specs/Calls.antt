@@ -5,18 +5,18 @@ use mathlib.Core.List.{List, [], _∷_}
 use mathlib.Core.Bool.{Bool, true, not, cond, _&&_, _||_}
 use lib.ListN.{length, take}
 use lib.Dec.{leb, ltb, eqb}
-use Rattle.protocol.specs.Limits.{MAX, card-limit, counter-limit, wrong-replica, not-well-formed, no-such-counter, no-more-messages, output-too-short, unreadable, no-such-card, repeated, early, implausible}
+use Rattle.protocol.specs.Limits.{MAX, most-cards, most-counters, bad-replica, bad-row, bad-counter, exhausted, short-output, unreadable, bad-card, repeated, early, implausible}
 use Rattle.protocol.specs.declared.Entry.{Entry}
 use Rattle.protocol.specs.declared.ClearEntry.{ClearEntry}
 use Rattle.protocol.specs.Entry.{present}
 use Rattle.protocol.specs.Chassis as protocol
 use Rattle.protocol.specs.Chassis.{Replica, increment, clearing, count-message, clear-message, read-value, read-holders}
-use Rattle.protocol.specs.Layouts.{shown, taken-words}
+use Rattle.protocol.specs.Store.{shown, taken-words}
 use Rattle.wire.specs.declared.Message as wire
 use Rattle.wire.specs.Message as form
 use Rattle.wire.specs.Message.{increment-message, increment-kind, message-at, message-bytes, message-length, reads, over}
 use Rattle.replica_model.specs.Layout.{cards, counters, own-card, replica-length, C-of, N-of, entry-of, fresh-words}
-use Rattle.replica_model.specs.Store.{layout}
+use Rattle.replica_model.specs.LayoutLaws.{layout}
 pub use Rattle.replica_model.specs.declared.Reading.{Reading}
 pub use Rattle.replica_model.specs.declared.Sent.{Sent}
 pub use Rattle.replica_model.specs.declared.Taken.{Taken}
@@ -29,7 +29,7 @@ check passed refused next = cond passed next refused
 
 -- "r cards, 1 to 16; k counters, 1 to 64"
 unfoldable pub sizes-in-range : ℕ → ℕ → Bool
-sizes-in-range r k = leb 1 r && leb r card-limit && leb 1 k && leb k counter-limit
+sizes-in-range r k = leb 1 r && leb r most-cards && leb 1 k && leb k most-counters
 
 unfoldable pub right : List ℕ → Bool
 right b =
@@ -73,13 +73,13 @@ pub record OpenOutcome : Type 0 where
 
 unfoldable pub open-on : List ℕ → ℕ → ℕ → ℕ → OpenOutcome
 open-on b r k own =
-    check (sizes-in-range r k && ltb own r && eqb (length b) (replica-length r k)) (record { number = wrong-replica; words = b })
+    check (sizes-in-range r k && ltb own r && eqb (length b) (replica-length r k)) (record { number = bad-replica; words = b })
     (record { number = 0; words = fresh-words r k own })
 
 -- ---- read: "1, 3, 2"
 
 abbrev pub no-reading : ℕ → Reading
-no-reading number = record { number = number; value = 0; holders = 0; count = 0 }
+no-reading number = record { number = number; value = 0; holders = 0; «holder_count» = 0 }
 
 -- "the value (sum of p - n), the holder set and how many holders. Bit j of the holder set is one if M[j] is present"
 unfoldable pub reading : List ℕ → ℕ → Reading
@@ -87,14 +87,14 @@ reading b q = record {
   number = 0;
   value = read-value (cards b) q (state b);
   holders = read-holders (cards b) q (state b);
-  count = count-below (cards b) (λ j. present (entry-of (cards b) b q j));
+  «holder_count» = count-below (cards b) (λ j. present (entry-of (cards b) b q j));
 }
 
 unfoldable pub read-on : List ℕ → ℕ → Reading
 read-on b q =
-    check (right b) (no-reading wrong-replica)
-    (check (ltb q (counters b)) (no-reading no-such-counter)
-    (check (row-well-formed b q) (no-reading not-well-formed)
+    check (right b) (no-reading bad-replica)
+    (check (ltb q (counters b)) (no-reading bad-counter)
+    (check (row-well-formed b q) (no-reading bad-row)
     (reading b q)))
 
 -- ---- count and clear: "1, 3, 2, 4, 5"
@@ -117,7 +117,7 @@ on-wire sender sequence (clearing q es) = form.clear-message sender sequence q e
 unfoldable pub sent : List ℕ → List ℕ → protocol.Message → SendOutcome
 sent b out m =
     let x = on-wire (own-card b) (N-of (cards b) b (own-card b) + 1) m in
-    check (leb (message-length x) (length out)) (not-sent output-too-short b out)
+    check (leb (message-length x) (length out)) (not-sent short-output b out)
     (record {
       answer = record { number = 0; sequence = x .sequence; length = message-length x };
       words = taken-words (cards b) (counters b) (layout (cards b) (counters b)) (own-card b) m b;
@@ -127,10 +127,10 @@ sent b out m =
 -- the checks before a message is made
 unfoldable pub sending : List ℕ → ℕ → List ℕ → SendOutcome → SendOutcome
 sending b q out next =
-    check (right b) (not-sent wrong-replica b out)
-    (check (ltb q (counters b)) (not-sent no-such-counter b out)
-    (check (row-well-formed b q) (not-sent not-well-formed b out)
-    (check (not (eqb (N-of (cards b) b (own-card b)) MAX)) (not-sent no-more-messages b out)
+    check (right b) (not-sent bad-replica b out)
+    (check (ltb q (counters b)) (not-sent bad-counter b out)
+    (check (row-well-formed b q) (not-sent bad-row b out)
+    (check (not (eqb (N-of (cards b) b (own-card b)) MAX)) (not-sent exhausted b out)
     next)))
 
 -- "with M[i] absent, send p = C[i] + 1 with start; else p = M[i].p + 1 without. Apply it to the own book in the same call."
@@ -179,9 +179,9 @@ plausible b m =
 
 unfoldable pub taking : List ℕ → wire.Message → TakeOutcome
 taking b m =
-    check (ltb (m .counter) (counters b)) (not-taken no-such-counter b)
-    (check (row-well-formed b (m .counter)) (not-taken not-well-formed b)
-    (check (cards-known b m) (not-taken no-such-card b)
+    check (ltb (m .counter) (counters b)) (not-taken bad-counter b)
+    (check (row-well-formed b (m .counter)) (not-taken bad-row b)
+    (check (cards-known b m) (not-taken bad-card b)
     (check (ltb (N-of (cards b) b (m .sender)) (m .sequence)) (not-taken repeated b)
     (check (leb (m .sequence) (N-of (cards b) b (m .sender) + 1)) (not-taken early b)
     (check (plausible b m) (not-taken implausible b)
@@ -192,6 +192,6 @@ taking b m =
 
 unfoldable pub take-on : List ℕ → List ℕ → TakeOutcome
 take-on b bytes =
-    check (right b) (not-taken wrong-replica b)
+    check (right b) (not-taken bad-replica b)
     (check (reads bytes) (not-taken unreadable b)
     (taking b (message-at bytes)))

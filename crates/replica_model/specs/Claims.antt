@@ -1,4 +1,4 @@
--- CLAIMS. What a caller of open, read, count, clear and take relies on, beyond each call's own equation (`Calls`). The terms are those of `Terms`.
+-- CLAIMS. What a caller of open, read, count, clear and take relies on, beyond each call's own equation (`Calls`). The terms are those of `ClaimTerms`.
 use Prim.Native.Nat.{ℕ, _+_, _*_, _≤_, _<_}
 use mathlib.Core.Path.{_≡_, refl}
 use mathlib.Core.Logic.{_≢_, _↔_}
@@ -10,18 +10,18 @@ use lib.Dec.{ltb}
 use Rattle.protocol.specs.Limits.{MAX, unreadable, repeated, early}
 use Rattle.protocol.specs.Cases.{by-place}
 use Rattle.protocol.specs.Chassis.{count-message, clear-message}
-use Rattle.protocol.specs.Stores.{shown}
+use Rattle.protocol.specs.StoreLaws.{shown}
 use Rattle.wire.specs.Message as form
 use Rattle.wire.specs.Message.{increment-message, message-at, message-bytes, over}
 use Rattle.replica_model.specs.Layout.{cards, counters, own-card, replica-length, N-of, entry-of, fresh-words}
 use Rattle.replica_model.specs.Calls.{right, row-well-formed, open-on, no-reading, reading, read-on, not-sent, count-on, clear-on, not-taken, content, take-on}
-use Rattle.replica_model.specs.Terms.{OpenSizes, Right, RowOf, Decided, open-checks, read-checks, count-checks, clear-checks, take-checks, holders, count-of, clear-of, sent-as, sent-with, taken-with, Performed, OnlyMoves, Keeps, Isolates, Writable, Addressed}
+use Rattle.replica_model.specs.ClaimTerms.{OpenSizes, Right, RowOf, Decided, open-checks, read-checks, count-checks, clear-checks, take-checks, holders, count-of, clear-of, sent-as, sent-with, taken-with, Performed, OnlyMoves, Keeps, Isolates, Writable, Addressed}
 use Rattle.replica_model.specs.RowLaws.{right-facts, right-from, row-facts, row-from}
 use Rattle.replica_model.specs.Exact.{present-length, open-decided, read-decided, count-decided, clear-decided, take-decided}
-use Rattle.replica_model.specs.Fresh.{fresh-right, fresh-row, sizes-opened, fresh-read, fresh-count, fresh-clear, fresh-take}
+use Rattle.replica_model.specs.FreshReplica.{fresh-right, fresh-row, sizes-opened, fresh-read, fresh-count, fresh-clear, fresh-take}
 use Rattle.replica_model.specs.Senders.{count-writable, clear-writable}
-use Rattle.replica_model.specs.Order.{again-refused, old-refused, early-refused}
-use Rattle.replica_model.specs.Accepted.{sending-from, count-move, clear-move, take-move, move-keeps, move-moves, move-isolates, unmoved-keeps, unmoved-isolates}
+use Rattle.replica_model.specs.SequenceLaws.{again-refused, old-refused, early-refused}
+use Rattle.replica_model.specs.AcceptedCalls.{sending-from, count-move, clear-move, take-move, move-keeps, move-moves, move-isolates, unmoved-keeps, unmoved-isolates}
 
 -- ---- WELL-FORMED, in plain numbers
 

@@ -14,12 +14,12 @@ use Rattle.protocol.specs.declared.Entry.{Entry}
 use Rattle.protocol.specs.declared.ClearEntry.{ClearEntry}
 use Rattle.protocol.specs.Entry.{present}
 use Rattle.protocol.specs.Chassis.{count-message, present-entries, clear-message}
-use Rattle.protocol.specs.Stores.{shown}
+use Rattle.protocol.specs.StoreLaws.{shown}
 use Rattle.wire.specs.Message as form
 use Rattle.wire.specs.Message.{increment-message, message-at}
 use Rattle.replica_model.specs.Layout.{cards, entry-of, fresh-words}
 use Rattle.replica_model.specs.Calls.{check, count-below, open-on, no-reading, reading, read-on, not-sent, sent, sending, count-on, clear-on, not-taken, taking, take-on}
-use Rattle.replica_model.specs.Terms.{Check, Gives, Decided, open-checks, read-checks, send-checks, count-checks, clear-checks, take-checks, count-of, clear-of, sent-with, taken-with}
+use Rattle.replica_model.specs.ClaimTerms.{Check, Gives, Decided, open-checks, read-checks, send-checks, count-checks, clear-checks, take-checks, count-of, clear-of, sent-with, taken-with}
 
 abbrev checked : {A : Type 0} → (ℕ → A) → List Check → A → A
 checked refusal [] result = result

@@ -57,11 +57,11 @@ set-C j v b = set b (at-C j) v
 abbrev pub set-N : ℕ → ℕ → ℕ → List ℕ → List ℕ
 set-N r j v b = set b (at-N r j) v
 
-abbrev pub three : List ℕ → ℕ → ℕ → ℕ → ℕ → List ℕ
-three b at x y z = set (set (set b at x) (at + 1) y) (at + 2) z
+abbrev pub set-three : List ℕ → ℕ → ℕ → ℕ → ℕ → List ℕ
+set-three b at x y z = set (set (set b at x) (at + 1) y) (at + 2) z
 
 abbrev pub set-entry : ℕ → ℕ → ℕ → Entry → List ℕ → List ℕ
-set-entry r q j e b = three b (at-entry r q j) (e .p) (e .n) (e .c)
+set-entry r q j e b = set-three b (at-entry r q j) (e .p) (e .n) (e .c)
 
 -- "A fresh book has zeros after its first three words."
 unfoldable pub fresh-words : ℕ → ℕ → ℕ → List ℕ

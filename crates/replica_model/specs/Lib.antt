@@ -1,19 +1,19 @@
 -- The layout and its laws; what each call does; its orders, computed.
 pub mod Layout
-pub mod Store
+pub mod LayoutLaws
 pub mod Calls
 pub mod Examples
 -- Laws: tests and plain facts, refusals, what a message does, what a card sends and takes.
-pub mod Terms
+pub mod ClaimTerms
 pub mod RowLaws
 pub mod Exact
-pub mod Kept
+pub mod WellFormedKept
 pub mod Performed
-pub mod Fresh
+pub mod FreshReplica
 pub mod Senders
 pub mod Receivers
-pub mod Accepted
-pub mod Order
+pub mod AcceptedCalls
+pub mod SequenceLaws
 pub mod Claims
 -- The calls beside the paper's Algorithm 1.
 pub mod Paper

@@ -9,11 +9,11 @@ use Rattle.protocol.specs.Claims.{algorithm-1-value, algorithm-1-count, algorit
 use Rattle.wire.specs.Message.{message-at}
 use Rattle.replica_model.specs.Layout.{cards, own-card, N-of}
 use Rattle.replica_model.specs.Calls.{state, reading, read-on, count-on, clear-on, take-on}
-use Rattle.replica_model.specs.Terms.{holders, count-of, clear-of}
+use Rattle.replica_model.specs.ClaimTerms.{holders, count-of, clear-of}
 use Rattle.replica_model.specs.Exact.{read-decided, count-decided, clear-decided, take-decided}
 use Rattle.replica_model.specs.Senders.{count-writable, clear-writable}
 use Rattle.replica_model.specs.Receivers.{taking-facts}
-use Rattle.replica_model.specs.Accepted.{sending-facts, count-move, clear-move, take-move}
+use Rattle.replica_model.specs.AcceptedCalls.{sending-facts, count-move, clear-move, take-move}
 use Rattle.replica_model.specs.Paper.{instance-of, update-of, PaperStep, Says}
 use Rattle.replica_model.specs.PaperLaws.{inc-made, reset-made, content-is, move-performs, sends}
 

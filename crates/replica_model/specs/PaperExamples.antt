@@ -8,7 +8,7 @@ use lib.ListN.{take, replicate}
 use Rattle.protocol.specs.Tables.{put}
 use Rattle.protocol.specs.Entry.{incremented}
 use Rattle.protocol.specs.Chassis.{count-message}
-use Rattle.protocol.specs.Stores.{taken-words, shown}
+use Rattle.protocol.specs.StoreLaws.{taken-words, shown}
 use Rattle.protocol.specs.Algorithm1.{unmapped, mapped, c-of, inc, inc-generator, inc-effector, effector}
 use Rattle.wire.specs.Number.{number-at, bytes-of}
 use Rattle.wire.specs.Message.{header-bytes, increment-bytes, message-bytes, increment-message, message-at}

@@ -1,4 +1,4 @@
--- LAWS. Document 01's step on the words (`Accepted`) and the paper's (`protocol`'s `Algorithm1`) joined: a move whose message is an update of the paper's performs that
+-- LAWS. Document 01's step on the words (`AcceptedCalls`) and the paper's (`protocol`'s `Algorithm1`) joined: a move whose message is an update of the paper's performs that
 -- update, and the message that is written for an update says it.
 use Prim.Native.Nat.{ℕ, _+_}
 use mathlib.Core.Path.{_≡_, refl, sym, ap, _∙_}
@@ -12,7 +12,7 @@ use Rattle.protocol.specs.Cases.{by-test}
 use Rattle.protocol.specs.declared.ClearEntry.{ClearEntry}
 use Rattle.protocol.specs.Entry.{present}
 use Rattle.protocol.specs.Chassis.{Message, taken}
-use Rattle.protocol.specs.Stores.{shown}
+use Rattle.protocol.specs.StoreLaws.{shown}
 use Rattle.protocol.specs.Algorithm1.{Update, inc, reset, inc-generator, reset-generator, effector, slot-of, state-of, message-of, SomeUnits}
 use Rattle.protocol.specs.Claims.{algorithm-1-take-increment, algorithm-1-take-clear}
 use Rattle.wire.specs.declared.Message as wire
@@ -21,9 +21,9 @@ use Rattle.wire.specs.Message.{increment-kind, increment-message, message-bytes
 use Rattle.wire.specs.WriteLaws.{length-message-bytes}
 use Rattle.replica_model.specs.Layout.{cards, own-card, C-of, N-of, entry-of}
 use Rattle.replica_model.specs.Calls.{state, SendOutcome, on-wire, content}
-use Rattle.replica_model.specs.Terms.{RowOf, sent-as, sent-with, Writable}
-use Rattle.replica_model.specs.Kept.{FittingEntries, Fitting}
-use Rattle.replica_model.specs.Accepted.{Move, move-isolates}
+use Rattle.replica_model.specs.ClaimTerms.{RowOf, sent-as, sent-with, Writable}
+use Rattle.replica_model.specs.WellFormedKept.{FittingEntries, Fitting}
+use Rattle.replica_model.specs.AcceptedCalls.{Move, move-isolates}
 use Rattle.replica_model.specs.Paper.{instance-of, update-of, SameBelow, PaperStep, Says}
 
 -- ---- updates and messages

@@ -13,13 +13,13 @@ use Rattle.protocol.specs.declared.Entry.{Entry}
 use Rattle.protocol.specs.declared.ClearEntry.{ClearEntry}
 use Rattle.protocol.specs.Entry.{incremented}
 use Rattle.protocol.specs.Chassis.{Message, increment, clearing, cleared-row, taken, counter-of}
-use Rattle.protocol.specs.Stores.{Shows, InLimits, shown, cleared-words, taken-words, taken-shows}
+use Rattle.protocol.specs.StoreLaws.{Shows, InLimits, shown, cleared-words, taken-words, taken-shows}
 use Rattle.replica_model.specs.Layout.{head, cards, counters, own-card, at-C, at-N, C-of, N-of, entry-of}
-use Rattle.replica_model.specs.Store.{layout, C-entry}
+use Rattle.replica_model.specs.LayoutLaws.{layout, C-entry}
 use Rattle.replica_model.specs.Calls.{state}
-use Rattle.replica_model.specs.Terms.{Right, RowOf, Performed, NotAmong, OnlyMoves}
+use Rattle.replica_model.specs.ClaimTerms.{Right, RowOf, Performed, NotAmong, OnlyMoves}
 use Rattle.replica_model.specs.RowLaws.{row-alike}
-use Rattle.replica_model.specs.Kept.{Fitting, taken-kept}
+use Rattle.replica_model.specs.WellFormedKept.{Fitting, taken-kept}
 
 -- ---- the first three words
 

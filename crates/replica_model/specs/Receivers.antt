@@ -18,8 +18,8 @@ use Rattle.wire.specs.RoundTrips.{readable}
 use Rattle.replica_model.specs.Layout.{cards, counters, own-card, C-of, N-of}
 use Rattle.replica_model.specs.Calls.{content, all-entries, cards-known, increment-implausible, entry-plausible, plausible}
 use Rattle.replica_model.specs.RowLaws.{right-facts, row-facts, tests}
-use Rattle.replica_model.specs.Terms.{Right, RowOf, Gives, take-checks}
-use Rattle.replica_model.specs.Kept.{FittingEntries, Fitting}
+use Rattle.replica_model.specs.ClaimTerms.{Right, RowOf, Gives, take-checks}
+use Rattle.replica_model.specs.WellFormedKept.{FittingEntries, Fitting}
 
 -- ---- tests
 

@@ -12,7 +12,7 @@ use Rattle.protocol.specs.Cases.{by-le, by-place, or-cases, or-left, or-right}
 use Rattle.protocol.specs.declared.Entry.{Entry}
 use Rattle.protocol.specs.EntryLaws.{WellFormed}
 use Rattle.replica_model.specs.Layout.{cards, C-of, N-of, entry-of}
-use Rattle.replica_model.specs.Terms.{Sizes, Right, WellFormedRow, RowOf}
+use Rattle.replica_model.specs.ClaimTerms.{Sizes, Right, WellFormedRow, RowOf}
 use Rattle.replica_model.specs.Calls.{sizes-in-range, right, all-below, count-below, entry-well-formed, card-well-formed, row-well-formed}
 
 pub leb-iff : (a b : ℕ) → (leb a b ≡ true) ↔ (a ≤ b)

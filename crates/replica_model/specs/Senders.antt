@@ -12,17 +12,17 @@ use Rattle.protocol.specs.declared.Entry.{Entry}
 use Rattle.protocol.specs.declared.ClearEntry.{ClearEntry}
 use Rattle.protocol.specs.Entry.{present, count-starts, count-p}
 use Rattle.protocol.specs.Chassis.{count-message, present-entries, clear-message}
-use Rattle.protocol.specs.Stores.{shown}
+use Rattle.protocol.specs.StoreLaws.{shown}
 use Rattle.wire.specs.declared.Message as wire
 use Rattle.wire.specs.Message.{message-bytes, message-length, entry-in-range, entries-in-range, in-range}
 use Rattle.wire.specs.Bounds.{HeaderBounds, increment-in-range-from, clear-in-range-from, increment-entries, clear-entries}
 use Rattle.wire.specs.WriteLaws.{length-message-bytes, increment-message-length, clear-message-length}
 use Rattle.wire.specs.RoundTrips.{message-read, read-as}
 use Rattle.replica_model.specs.Layout.{cards, counters, own-card, C-of, N-of, entry-of}
-use Rattle.replica_model.specs.Terms.{Right, WellFormedRow, RowOf, holders, count-of, clear-of, sent-as, Writable}
+use Rattle.replica_model.specs.ClaimTerms.{Right, WellFormedRow, RowOf, holders, count-of, clear-of, sent-as, Writable}
 use Rattle.replica_model.specs.RowLaws.{flag≤1, count-below≤, tests}
 use Rattle.replica_model.specs.Exact.{present-length}
-use Rattle.replica_model.specs.Kept.{FittingEntry, FittingEntries, Fitting}
+use Rattle.replica_model.specs.WellFormedKept.{FittingEntry, FittingEntries, Fitting}
 
 -- what the checks before a message is made leave
 pub record Sending (b : List ℕ) (q : ℕ) : Type 0 where

@@ -7,7 +7,7 @@ pub struct Reading {
     pub number: u64,
     pub value: u64,
     pub holders: u64,
-    pub count: u64,
+    pub holder_count: u64,
 }
 
 // Number 0 with the message's sequence and the length written; or the number of the refusal with zeros.

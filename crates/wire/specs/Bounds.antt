@@ -1,4 +1,4 @@
--- LAWS. The range of a message as plain bounds, both ways, and its one form: a message in range is an increment or a clear made from its fields. Assumes nothing.
+-- LAWS. The range of a message as plain bounds, both ways, and its one form: a message in range is an increment or a clear made from its fields.
 use mathlib.Core.Path.{_≡_, refl, sym, _∙_, subst}
 use mathlib.Core.List.{List, [], _∷_, _++_}
 use mathlib.Core.Bool.{true, _&&_, _||_, and-true, and-assoc}
@@ -9,7 +9,7 @@ use lib.Dec.{leb, ltb, eqb}
 use lib.ListN.{length, getD, take, drop, replicate, length-append, length-drop, length-replicate, take-append-drop}
 use lib.Seq.{take-append-seam, drop-append-seam, length-take-le, getD-take}
 use borrow.Author.Tests.{eq-eqb, ne-eqb, le-leb, lt-ltb, leb-true, ltb-true, eqb-true}
-use Rattle.protocol.specs.Limits.{MAX, card-limit, counter-limit}
+use Rattle.protocol.specs.Limits.{MAX, most-cards, most-counters}
 use Rattle.protocol.specs.declared.ClearEntry.{ClearEntry}
 use Rattle.protocol.specs.Cases.{by-place, and-left, and-right}
 use Rattle.wire.specs.Message.{Message, version-1, increment-kind, clear-kind, no-entry, increment-message, clear-message, header-in-range, increment-in-range, clear-in-range, entry-in-range, entries-in-range, unused, in-range}
@@ -32,7 +32,7 @@ unfolding increment-message entries-in-range unused
 increment-range sender sequence counter p start = in-range-split (increment-message sender sequence counter p start) ∙ and-true _
 
 pub clear-range : (sender sequence counter : ℕ) (es : List ClearEntry)
-    → in-range (clear-message sender sequence counter es) ≡ header-fits version-1 sender sequence counter && leb (length es) card-limit && entries-in-range 0 es
+    → in-range (clear-message sender sequence counter es) ≡ header-fits version-1 sender sequence counter && leb (length es) most-cards && entries-in-range 0 es
 unfolding clear-message
 clear-range sender sequence counter es =
     in-range-split (clear-message sender sequence counter es)
@@ -41,10 +41,10 @@ clear-range sender sequence counter es =
 -- ---- bounds
 
 pub record HeaderBounds (sender sequence counter : ℕ) : Type 0 where
-  pub sender-low : sender < card-limit
+  pub sender-low : sender < most-cards
   pub sequence-some : 1 ≤ sequence
   pub sequence-most : sequence ≤ MAX
-  pub counter-low : counter < counter-limit
+  pub counter-low : counter < most-counters
 
 pub record IncrementBounds (p start : ℕ) : Type 0 where
   pub p-some : 1 ≤ p
@@ -52,7 +52,7 @@ pub record IncrementBounds (p start : ℕ) : Type 0 where
   pub start-flag : start ≤ 1
 
 pub record EntryBounds (e : ClearEntry) : Type 0 where
-  pub card-low : e .card < card-limit
+  pub card-low : e .card < most-cards
   pub p-some : 1 ≤ e .p
   pub p-most : e .p ≤ e .c
   pub c-most : e .c ≤ MAX
@@ -60,7 +60,7 @@ pub record EntryBounds (e : ClearEntry) : Type 0 where
 -- what the kind asks of the numbers past the header
 pub data BodyBounds (kind p start len : ℕ) : Type 0 where
   increment : kind ≡ increment-kind → len ≡ 0 → IncrementBounds p start → BodyBounds kind p start len
-  clear : kind ≡ clear-kind → p ≡ 0 → start ≡ 0 → len ≤ card-limit → BodyBounds kind p start len
+  clear : kind ≡ clear-kind → p ≡ 0 → start ≡ 0 → len ≤ most-cards → BodyBounds kind p start len
 
 -- the bounds of a whole message
 pub record Bounds (m : Message) : Type 0 where
@@ -73,24 +73,24 @@ pub record Bounds (m : Message) : Type 0 where
 header-bounds : (version sender sequence counter : ℕ) → header-fits version sender sequence counter ≡ true → (version ≡ version-1) × HeaderBounds sender sequence counter
 header-bounds version sender sequence counter h =
     let v = eqb version version-1 in
-    let s = ltb sender card-limit in
+    let s = ltb sender most-cards in
     let q = from-one-to MAX sequence in
-    let k = ltb counter counter-limit in
+    let k = ltb counter most-counters in
     let vsq = and-left (v && s && q) k h in
     let vs = and-left (v && s) q vsq in
     let range = and-right (v && s) q vsq in (
       eqb-true version version-1 (and-left v s vs),
       record {
-        sender-low = ltb-true sender card-limit (and-right v s vs);
+        sender-low = ltb-true sender most-cards (and-right v s vs);
         sequence-some = leb-true 1 sequence (and-left (leb 1 sequence) (leb sequence MAX) range);
         sequence-most = leb-true sequence MAX (and-right (leb 1 sequence) (leb sequence MAX) range);
-        counter-low = ltb-true counter counter-limit (and-right (v && s && q) k h);
+        counter-low = ltb-true counter most-counters (and-right (v && s && q) k h);
       },
     )
 
 header-from : (sender sequence counter : ℕ) → HeaderBounds sender sequence counter → header-fits version-1 sender sequence counter ≡ true
 header-from sender sequence counter b =
-    rw (lt-ltb sender card-limit (b .sender-low), le-leb 1 sequence (b .sequence-some), le-leb sequence MAX (b .sequence-most), lt-ltb counter counter-limit (b .counter-low))
+    rw (lt-ltb sender most-cards (b .sender-low), le-leb 1 sequence (b .sequence-some), le-leb sequence MAX (b .sequence-most), lt-ltb counter most-counters (b .counter-low))
 
 increment-body : (p start len : ℕ) → from-one-to MAX p && leb start 1 && eqb len 0 ≡ true → (len ≡ 0) × IncrementBounds p start
 increment-body p start len h =
@@ -113,11 +113,11 @@ body-bounds kind p start len h =
     (λ d.
     let k = eqb kind clear-kind in
     let none = eqb p 0 && eqb start 0 in
-    let h₁ : k && (none && leb len card-limit) ≡ true = rw (ne-eqb kind increment-kind d) at h in
-    let h₂ = and-right k (none && leb len card-limit) h₁ in
-    let h₃ = and-left none (leb len card-limit) h₂ in
-    clear (eqb-true kind clear-kind (and-left k (none && leb len card-limit) h₁)) (eqb-true p 0 (and-left (eqb p 0) (eqb start 0) h₃)) (eqb-true start 0 (and-right (eqb p 0) (eqb start 0) h₃))
-    (leb-true len card-limit (and-right none (leb len card-limit) h₂)))
+    let h₁ : k && (none && leb len most-cards) ≡ true = rw (ne-eqb kind increment-kind d) at h in
+    let h₂ = and-right k (none && leb len most-cards) h₁ in
+    let h₃ = and-left none (leb len most-cards) h₂ in
+    clear (eqb-true kind clear-kind (and-left k (none && leb len most-cards) h₁)) (eqb-true p 0 (and-left (eqb p 0) (eqb start 0) h₃)) (eqb-true start 0 (and-right (eqb p 0) (eqb start 0) h₃))
+    (leb-true len most-cards (and-right none (leb len most-cards) h₂)))
 
 -- of a message in range
 pub bounds : (m : Message) → in-range m ≡ true → Bounds m
@@ -138,11 +138,11 @@ bounds m h =
     }
 
 -- no more than sixteen entries, of either kind
-few : (kind p start len : ℕ) → BodyBounds kind p start len → len ≤ card-limit
+few : (kind p start len : ℕ) → BodyBounds kind p start len → len ≤ most-cards
 few kind p start len (increment k l b) = omega arith
 few kind p start len (clear k a b l) = l
 
-pub len-few : (m : Message) → in-range m ≡ true → m .len ≤ card-limit
+pub len-few : (m : Message) → in-range m ≡ true → m .len ≤ most-cards
 len-few m h = few (m .kind) (m .p) (m .start) (m .len) (bounds m h .body)
 
 -- a message in range that is no clear is an increment
@@ -167,10 +167,10 @@ increment-in-range-from sender sequence counter p start h b =
     increment-range sender sequence counter p start
     ∙ rw (header-from sender sequence counter h, le-leb 1 p (b .p-some), le-leb p MAX (b .p-most), le-leb start 1 (b .start-flag))
 
-pub clear-in-range-from : (sender sequence counter : ℕ) (es : List ClearEntry) → HeaderBounds sender sequence counter → length es ≤ card-limit → entries-in-range 0 es ≡ true
+pub clear-in-range-from : (sender sequence counter : ℕ) (es : List ClearEntry) → HeaderBounds sender sequence counter → length es ≤ most-cards → entries-in-range 0 es ≡ true
     → in-range (clear-message sender sequence counter es) ≡ true
 clear-in-range-from sender sequence counter es h short fit =
-    clear-range sender sequence counter es ∙ rw (header-from sender sequence counter h, le-leb (length es) card-limit short, fit)
+    clear-range sender sequence counter es ∙ rw (header-from sender sequence counter h, le-leb (length es) most-cards short, fit)
 
 -- ---- entries
 
@@ -178,14 +178,14 @@ entry-bounds : (low : ℕ) (e : ClearEntry) → entry-in-range low e ≡ true �
 unfolding entry-in-range
 entry-bounds low e h =
     let a = leb low (e .card) in
-    let b = ltb (e .card) card-limit in
+    let b = ltb (e .card) most-cards in
     let c = leb 1 (e .p) in
     let d = leb (e .p) (e .c) in
     let abcd = and-left (a && b && c && d) (leb (e .c) MAX) h in
     let abc = and-left (a && b && c) d abcd in
     let ab = and-left (a && b) c abc in
     record {
-      card-low = ltb-true (e .card) card-limit (and-right a b ab);
+      card-low = ltb-true (e .card) most-cards (and-right a b ab);
       p-some = leb-true 1 (e .p) (and-right (a && b) c abc);
       p-most = leb-true (e .p) (e .c) (and-right (a && b && c) d abcd);
       c-most = leb-true (e .c) MAX (and-right (a && b && c && d) (leb (e .c) MAX) h);
@@ -250,7 +250,7 @@ clear-same version kind sender sequence counter p start len es all v k a b l e =
 -- a proof about messages in range splits by this
 module _ (P : Message → Type 0)
     (on-increment : (sender sequence counter p start : ℕ) → HeaderBounds sender sequence counter → IncrementBounds p start → P (increment-message sender sequence counter p start))
-    (on-clear : (sender sequence counter : ℕ) (es : List ClearEntry) → HeaderBounds sender sequence counter → length es ≤ card-limit → entries-in-range 0 es ≡ true → P (clear-message sender sequence counter es)) where
+    (on-clear : (sender sequence counter : ℕ) (es : List ClearEntry) → HeaderBounds sender sequence counter → length es ≤ most-cards → entries-in-range 0 es ≡ true → P (clear-message sender sequence counter es)) where
   form-by : (m : Message) → length (m .entries) ≡ 16 → Bounds m → BodyBounds (m .kind) (m .p) (m .start) (m .len) → P m
   form-by m full b (increment kind none range) =
       let all : m .entries ≡ replicate 16 no-entry = rw full at (unused-is (m .entries) (rw none at (b .rest))) in
@@ -273,7 +273,7 @@ pub increment-entries : (sender sequence counter p start : ℕ) → length (incr
 unfolding increment-message
 increment-entries sender sequence counter p start = refl
 
-pub clear-entries : (sender sequence counter : ℕ) (es : List ClearEntry) → length es ≤ card-limit → length (clear-message sender sequence counter es .entries) ≡ 16
+pub clear-entries : (sender sequence counter : ℕ) (es : List ClearEntry) → length es ≤ most-cards → length (clear-message sender sequence counter es .entries) ≡ 16
 unfolding clear-message
 clear-entries sender sequence counter es short =
     length-append es (replicate (16 - length es) no-entry) ∙ rw (length-replicate (16 - length es) no-entry) (omega arith)

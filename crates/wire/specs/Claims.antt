@@ -7,7 +7,7 @@ use native.Mathlib.Omega.{arith}
 use lib.ListN.{length, take}
 use Rattle.protocol.specs.declared.ClearEntry.{ClearEntry}
 use Rattle.wire.specs.Message.{Message, message-bytes, message-length, increment-message, clear-message, in-range, called-length, message-at, reads, read-message, front-length}
-use Rattle.wire.specs.Parts.{header-at, increment-at, entry-read-at}
+use Rattle.wire.specs.MessageParts.{header-at, increment-at, entry-read-at}
 use Rattle.wire.specs.NumberLaws.{Bytes}
 use Rattle.wire.specs.WriteLaws.{length-message-bytes, increment-message-length, clear-message-length}
 use Rattle.wire.specs.RoundTrips as trips

@@ -1,4 +1,4 @@
--- LAWS. The entries of a clear: one turn of each loop over them, their bytes, and the way back from the bytes. Assumes nothing.
+-- LAWS. The entries of a clear: one turn of each loop over them, their bytes, and the way back from the bytes.
 use mathlib.Core.Path.{_≡_, refl, sym, ap, _∙_}
 use mathlib.Core.List.{List, [], _∷_, _++_, append-assoc}
 use mathlib.Core.Bool.{Bool, true, false, _&&_, and-assoc}
@@ -15,7 +15,7 @@ use Rattle.protocol.specs.Cases.{by-le}
 use Rattle.wire.specs.Number.{unsigned-int, unsigned-hyper}
 use Rattle.wire.specs.Message.{Message, no-entry, entry-bytes, entries-bytes, entry-at, entries-at, entry-in-range, entries-in-range, unused}
 use Rattle.wire.specs.Ranges.{entries-fit, entry-fits}
-use Rattle.wire.specs.Lists.{sets-append}
+use Rattle.wire.specs.StoredLists.{sets-append}
 use Rattle.wire.specs.NumberLaws.{length-bytes-of}
 
 -- a message with other entries: what a loop that fills them makes of it

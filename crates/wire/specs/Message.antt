@@ -5,7 +5,7 @@ use mathlib.Core.List.{List, [], _∷_, _++_}
 use mathlib.Core.Bool.{Bool, true, cond, _&&_, _||_}
 use lib.ListN.{length, getD, take, drop, replicate}
 use lib.Dec.{leb, ltb, eqb}
-use Rattle.protocol.specs.Limits.{MAX, card-limit, counter-limit, output-too-short, unreadable}
+use Rattle.protocol.specs.Limits.{MAX, most-cards, most-counters, short-output, unreadable}
 use Rattle.protocol.specs.declared.ClearEntry.{ClearEntry}
 use Rattle.wire.specs.Number.{unsigned-int, unsigned-hyper, int-at, hyper-at}
 pub use Rattle.wire.specs.declared.Message.{Message}
@@ -60,7 +60,7 @@ message-length m = cond (eqb (m .kind) clear-kind) (28 + 20 * m .len) 36
 -- "sender 0 to 15; sequence 1 to MAX; counter 0 to 63"
 unfoldable pub header-in-range : Message → Bool
 header-in-range m =
-    eqb (m .version) version-1 && ltb (m .sender) card-limit && leb 1 (m .sequence) && leb (m .sequence) MAX && ltb (m .counter) counter-limit
+    eqb (m .version) version-1 && ltb (m .sender) most-cards && leb 1 (m .sequence) && leb (m .sequence) MAX && ltb (m .counter) most-counters
 
 -- "p 1 to MAX, start 0 or 1"
 unfoldable pub increment-in-range : Message → Bool
@@ -68,11 +68,11 @@ increment-in-range m = leb 1 (m .p) && leb (m .p) MAX && leb (m .start) 1 && eqb
 
 -- "e from 0 to 16"
 unfoldable pub clear-in-range : Message → Bool
-clear-in-range m = eqb (m .p) 0 && eqb (m .start) 0 && leb (m .len) card-limit
+clear-in-range m = eqb (m .p) 0 && eqb (m .start) 0 && leb (m .len) most-cards
 
 -- "card 0 to 15, 1 <= p <= c <= MAX"; the card is `low` or above
 unfoldable pub entry-in-range : ℕ → ClearEntry → Bool
-entry-in-range low e = leb low (e .card) && ltb (e .card) card-limit && leb 1 (e .p) && leb (e .p) (e .c) && leb (e .c) MAX
+entry-in-range low e = leb low (e .card) && ltb (e .card) most-cards && leb 1 (e .p) && leb (e .p) (e .c) && leb (e .c) MAX
 
 -- "Cards rise strictly."
 unfoldable pub entries-in-range : ℕ → List ClearEntry → Bool
@@ -189,5 +189,5 @@ write-message m out =
     cond (in-range m)
     (cond (leb (message-length m) (length out))
     (record { answer = record { number = 0; length = message-length m }; out = over (message-bytes m) out })
-    (write-declined output-too-short out))
+    (write-declined short-output out))
     (write-declined unreadable out)

@@ -1,4 +1,4 @@
--- LAWS. When bytes read, case by case: by the length, the version, the kind and the ranges; and the message that a longer list starts with. Assumes nothing.
+-- LAWS. When bytes read, case by case: by the length, the version, the kind and the ranges; and the message that a longer list starts with.
 use mathlib.Core.Path.{_≡_, refl, sym, _∙_}
 use Prim.Native.Nat.{ℕ, _+_, _*_, _≤_, _<_}
 use mathlib.Core.List.{List}
@@ -7,7 +7,7 @@ use native.Mathlib.Omega.{arith}
 use lib.ListN.{length, take}
 use lib.Dec.{leb, eqb}
 use borrow.Author.Tests.{eq-eqb, ne-eqb, le-leb, lt-leb}
-use Rattle.protocol.specs.Limits.{card-limit, unreadable}
+use Rattle.protocol.specs.Limits.{most-cards, unreadable}
 use Rattle.protocol.specs.Cases.{by-place}
 use Rattle.wire.specs.Number.{int-at, hyper-at}
 use Rattle.wire.specs.Message.{Message, Reading, version-1, increment-kind, no-message, entries-at, called-length, message-at, reads, read-message, front-length, entries-in-range}
@@ -81,7 +81,7 @@ module _ (s : List ℕ) where
 
 -- bytes of a clear's version and kind: the number of entries, the length, then the ranges
 module _ (s : List ℕ) (version : int-at s 0 ≡ 1) (kind : int-at s 4 ≡ 2) (n : ℕ) (count : n ≡ int-at s 24) where
-  reads-clear : reads s ≡ leb n card-limit && eqb (length s) (28 + 20 * n) && (header-fits version-1 (int-at s 8) (hyper-at s 12) (int-at s 20) && entries-in-range 0 (entries-at n s 28))
+  reads-clear : reads s ≡ leb n most-cards && eqb (length s) (28 + 20 * n) && (header-fits version-1 (int-at s 8) (hyper-at s 12) (int-at s 20) && entries-in-range 0 (entries-at n s 28))
   unfolding reads called-length message-at
   reads-clear =
       rw (
@@ -91,16 +91,16 @@ module _ (s : List ℕ) (version : int-at s 0 ≡ 1) (kind : int-at s 4 ≡ 2) (
         clear-range (int-at s 8) (hyper-at s 12) (int-at s 20) (entries-at n s 28),
         length-entries-at n s 28,
       )
-      (and-middle (eqb (length s) (28 + 20 * n)) (header-fits version-1 (int-at s 8) (hyper-at s 12) (int-at s 20)) (leb n card-limit) (entries-in-range 0 (entries-at n s 28)))
+      (and-middle (eqb (length s) (28 + 20 * n)) (header-fits version-1 (int-at s 8) (hyper-at s 12) (int-at s 20)) (leb n most-cards) (entries-in-range 0 (entries-at n s 28)))
 
-  pub reads-clear-many : card-limit < n → false ≡ reads s
-  reads-clear-many many = sym (reads-clear ∙ rw (lt-leb n card-limit many))
+  pub reads-clear-many : most-cards < n → false ≡ reads s
+  reads-clear-many many = sym (reads-clear ∙ rw (lt-leb n most-cards many))
 
   pub reads-clear-inexact : (length s ≡ 28 + 20 * n → ⊥) → false ≡ reads s
-  reads-clear-inexact other = sym (reads-clear ∙ rw (ne-eqb (length s) (28 + 20 * n) other, and-false (leb n card-limit)))
+  reads-clear-inexact other = sym (reads-clear ∙ rw (ne-eqb (length s) (28 + 20 * n) other, and-false (leb n most-cards)))
 
-  pub reads-clear-exact : n ≤ card-limit → length s ≡ 28 + 20 * n → reads s ≡ header-fits version-1 (int-at s 8) (hyper-at s 12) (int-at s 20) && entries-in-range 0 (entries-at n s 28)
-  reads-clear-exact few exact = reads-clear ∙ rw (le-leb n card-limit few, eq-eqb (length s) (28 + 20 * n) exact)
+  pub reads-clear-exact : n ≤ most-cards → length s ≡ 28 + 20 * n → reads s ≡ header-fits version-1 (int-at s 8) (hyper-at s 12) (int-at s 20) && entries-in-range 0 (entries-at n s 28)
+  reads-clear-exact few exact = reads-clear ∙ rw (le-leb n most-cards few, eq-eqb (length s) (28 + 20 * n) exact)
 
 -- ---- the message that a longer list of bytes starts with
 

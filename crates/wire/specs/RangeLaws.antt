@@ -1,4 +1,4 @@
--- LAWS. The ranges over plain numbers: a range from one tested by one comparison of a wrapped difference, and the tests of an entry. Assumes nothing.
+-- LAWS. The ranges over plain numbers: a range from one tested by one comparison of a wrapped difference, and the tests of an entry.
 use mathlib.Core.Path.{_≡_, sym, _∙_}
 use mathlib.Core.Bool.{Bool, _&&_, and-assoc}
 use Prim.Native.Nat.{ℕ, suc, _+_, _%_, _^_, _<_}

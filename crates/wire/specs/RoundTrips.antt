@@ -1,4 +1,4 @@
--- LAWS. From a message to its bytes and back, and from bytes that read to the message and back. Assumes nothing.
+-- LAWS. From a message to its bytes and back, and from bytes that read to the message and back.
 use mathlib.Core.Path.{_≡_, refl, sym, ap, _∙_}
 use mathlib.Core.List.{List, [], _++_, append-assoc, append-nil}
 use mathlib.Core.Bool.{true, _&&_, _||_, or-false}
@@ -9,12 +9,12 @@ use lib.Dec.{leb, eqb}
 use lib.ListN.{length, getD, take, drop, replicate, length-append, List·getD-append}
 use lib.Seq.{take-suc, take-all, take-at, take-append-seam}
 use borrow.Author.Tests.{eq-eqb, ne-eqb, le-leb, leb-true, eqb-true}
-use Rattle.protocol.specs.Limits.{card-limit, unreadable}
+use Rattle.protocol.specs.Limits.{most-cards, unreadable}
 use Rattle.protocol.specs.declared.ClearEntry.{ClearEntry}
 use Rattle.protocol.specs.Cases.{by-place, by-test, and-left, and-right}
 use Rattle.wire.specs.Number.{number-at, bytes-of, int-at, hyper-at, unsigned-int, unsigned-hyper}
 use Rattle.wire.specs.Message.{Message, Reading, version-1, increment-kind, clear-kind, no-entry, header-bytes, increment-bytes, entry-bytes, entries-bytes, clear-bytes, message-bytes, message-length, increment-message, clear-message, entries-in-range, in-range, entry-at, entries-at, called-length, message-at, reads, read-message, front-length}
-use Rattle.wire.specs.Lists.{parts-join}
+use Rattle.wire.specs.StoredLists.{parts-join}
 use Rattle.wire.specs.NumberLaws.{Bytes, length-bytes-of, number-at-left, number-at-right, number-at-bytes-of, bytes-of-number-at}
 use Rattle.wire.specs.EntriesLaws.{entries-at-more, length-entries-at, length-entries-bytes}
 use Rattle.wire.specs.WriteLaws.{length-header-bytes, length-clear-bytes, length-message-bytes}
@@ -136,7 +136,7 @@ increment-stands sender sequence counter p start rest h b =
           );
     }
 
-clear-stands : (sender sequence counter : ℕ) (es : List ClearEntry) (rest : List ℕ) → HeaderBounds sender sequence counter → length es ≤ card-limit → entries-in-range 0 es ≡ true
+clear-stands : (sender sequence counter : ℕ) (es : List ClearEntry) (rest : List ℕ) → HeaderBounds sender sequence counter → length es ≤ most-cards → entries-in-range 0 es ≡ true
     → Stands (message-bytes (clear-message sender sequence counter es) ++ rest) (clear-message sender sequence counter es)
 unfolding message-bytes clear-bytes clear-message called-length message-at
 clear-stands sender sequence counter es rest h short fit =
@@ -317,7 +317,7 @@ message-back s bytes h =
     let b = readable s h in
     by-kind s (λ (m : Message). message-bytes m ≡ s) b (λ kind exact. increment-back s bytes (b .version) kind exact) (λ kind exact. clear-back s bytes (b .version) kind exact)
 
-few-entries : (s : List ℕ) → clear-message (int-at s 8) (hyper-at s 12) (int-at s 20) (entries-at (int-at s 24) s 28) .len ≤ card-limit → length (entries-at (int-at s 24) s 28) ≤ card-limit
+few-entries : (s : List ℕ) → clear-message (int-at s 8) (hyper-at s 12) (int-at s 20) (entries-at (int-at s 24) s 28) .len ≤ most-cards → length (entries-at (int-at s 24) s 28) ≤ most-cards
 unfolding clear-message
 few-entries s few = few
 
@@ -326,7 +326,7 @@ pub message-full : (s : List ℕ) → reads s ≡ true → length (message-at s 
 message-full s h =
     let b = readable s h in
     let short = len-few (message-at s) (b .fits) in
-    by-kind s (λ (m : Message). m .len ≤ card-limit → length (m .entries) ≡ 16) b
+    by-kind s (λ (m : Message). m .len ≤ most-cards → length (m .entries) ≡ 16) b
     (λ kind exact few. increment-entries (int-at s 8) (hyper-at s 12) (int-at s 20) (hyper-at s 24) (int-at s 32))
     (λ kind exact few. clear-entries (int-at s 8) (hyper-at s 12) (int-at s 20) (entries-at (int-at s 24) s 28) (few-entries s few))
     short
@@ -349,7 +349,7 @@ unfolding message-at
 read-increment s other = rw (ne-eqb (int-at s 4) clear-kind other)
 
 -- the entries of a clear stand in the bytes, and are not too many
-pub read-count : (s : List ℕ) → reads s ≡ true → int-at s 4 ≡ clear-kind → (int-at s 24 ≤ card-limit) × (length s ≡ 28 + 20 * int-at s 24)
+pub read-count : (s : List ℕ) → reads s ≡ true → int-at s 4 ≡ clear-kind → (int-at s 24 ≤ most-cards) × (length s ≡ 28 + 20 * int-at s 24)
 unfolding called-length clear-message
 read-count s h kind =
     let few = rw (read-clear s kind, length-entries-at (int-at s 24) s 28) at (len-few (message-at s) (readable s h .fits)) in

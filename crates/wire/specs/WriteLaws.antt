@@ -1,4 +1,4 @@
--- LAWS. The lengths of a message's parts in bytes, and what the stores of a writer leave. Assumes nothing.
+-- LAWS. The lengths of a message's parts in bytes, and what the stores of a writer leave.
 use mathlib.Core.Path.{_≡_, refl, sym, _∙_}
 use mathlib.Core.List.{List, _++_}
 use mathlib.Core.Bool.{true, false}
@@ -9,10 +9,10 @@ use lib.Seq.{sets}
 use borrow.Author.Tests.{eq-eqb, ne-eqb, le-leb, lt-leb}
 use Rattle.protocol.specs.Cases.{by-place}
 use Rattle.protocol.specs.declared.ClearEntry.{ClearEntry}
-use Rattle.protocol.specs.Limits.{output-too-short, unreadable}
+use Rattle.protocol.specs.Limits.{short-output, unreadable}
 use Rattle.wire.specs.Number.{unsigned-int, unsigned-hyper}
 use Rattle.wire.specs.Message.{Message, WriteOutcome, version-1, increment-kind, clear-kind, over, header-bytes, increment-bytes, entries-bytes, clear-bytes, message-bytes, message-length, increment-message, clear-message, in-range, write-declined, write-message}
-use Rattle.wire.specs.Lists.{sets-append, sets-front}
+use Rattle.wire.specs.StoredLists.{sets-append, sets-front}
 use Rattle.wire.specs.NumberLaws.{length-bytes-of}
 use Rattle.wire.specs.EntriesLaws.{length-entries-bytes}
 use Rattle.wire.specs.Bounds.{bounds, kind-increment}
@@ -104,7 +104,7 @@ module _ (m : Message) (out : List ℕ) where
   unfolding write-message
   write-unfit fails = rw fails
 
-  pub write-short : (n : ℕ) → n ≡ message-length m → in-range m ≡ true → length out < n → write-declined output-too-short out ≡ write-message m out
+  pub write-short : (n : ℕ) → n ≡ message-length m → in-range m ≡ true → length out < n → write-declined short-output out ≡ write-message m out
   unfolding write-message
   write-short n long fits short = rw (fits, ← long, lt-leb n (length out) short)
 

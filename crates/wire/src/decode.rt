@@ -1,10 +1,10 @@
 // Bytes to a message. Each part is read from the position that the part before it answered. The public calls are `read_message` and
 // `front_length`; `reads` and `called_length_of` are inner doors for callers that test the bytes first and hold no more of them than they need.
 use crate::CLEAR;
-use crate::EMPTY_CLEAR_LENGTH;
-use crate::ENTRY_LENGTH;
+use crate::EMPTY_CLEAR_BYTES;
+use crate::ENTRY_BYTES;
 use crate::INCREMENT;
-use crate::INCREMENT_LENGTH;
+use crate::INCREMENT_BYTES;
 use crate::Message;
 use crate::Reading;
 use crate::VERSION;
@@ -17,7 +17,7 @@ ghost use mathlib.Core.Bool.{true};
 ghost use Prim.Native.Nat.{_+_, _*_, _≤_};
 ghost use lib.ListN.{length};
 ghost use Rattle.wire.specs.Message.{entries-at, entries-in-range, called-length, message-at, reads, read-message, front-length};
-ghost use Rattle.wire.specs.Parts.{header-at};
+ghost use Rattle.wire.specs.MessageParts.{header-at};
 ghost use Rattle.wire.specs.MessageLaws.{refused};
 
 const NO_ENTRY: ClearEntry = ClearEntry {
@@ -30,7 +30,7 @@ fn does_increment_read(bytes: &[u8], header: Header) -> bool
     requires { ⌜ (header ≡ header-at (now bytes) 0) × (header .version ≡ 1) × (header .kind ≡ 1) ⌝ }
     ensures { λ a. ⌜ a ≡ reads (now (bytes .entry)) ⌝ }
 {
-    if bytes.len() != INCREMENT_LENGTH {
+    if bytes.len() != INCREMENT_BYTES {
         return false;
     }
     let body = reader::increment_from(bytes, header.behind);
@@ -68,7 +68,7 @@ fn does_clear_read(bytes: &[u8], header: Header) -> bool
     if range::MOST_ENTRIES < len {
         return false;
     }
-    if bytes.len() != EMPTY_CLEAR_LENGTH + ENTRY_LENGTH * len {
+    if bytes.len() != EMPTY_CLEAR_BYTES + ENTRY_BYTES * len {
         return false;
     }
     range::header_in_range(VERSION, header.sender, header.sequence, header.counter)
@@ -81,7 +81,7 @@ fn does_clear_read(bytes: &[u8], header: Header) -> bool
 pub fn reads(bytes: &[u8]) -> bool
     ensures { λ a. ⌜ a ≡ reads (now (bytes .entry)) ⌝ }
 {
-    if bytes.len() < EMPTY_CLEAR_LENGTH {
+    if bytes.len() < EMPTY_CLEAR_BYTES {
         return false;
     }
     let header = reader::header_from(bytes, 0);
@@ -199,9 +199,9 @@ pub fn called_length_of(bytes: &[u8]) -> usize
     if header.kind == CLEAR {
         let count = reader::next_int(bytes, header.behind);
         let len = count.number as usize;
-        return EMPTY_CLEAR_LENGTH + ENTRY_LENGTH * len;
+        return EMPTY_CLEAR_BYTES + ENTRY_BYTES * len;
     }
-    INCREMENT_LENGTH
+    INCREMENT_BYTES
 }
 
 // The length of the message that the bytes start with, 0 where they start with none that reads.
@@ -209,7 +209,7 @@ pub fn called_length_of(bytes: &[u8]) -> usize
 pub fn front_length(bytes: &[u8]) -> usize
     ensures { λ r. ⌜ (r ≡ front-length (now (bytes .entry))) × (r ≤ length (now (bytes .entry))) ⌝ }
 {
-    if bytes.len() < EMPTY_CLEAR_LENGTH {
+    if bytes.len() < EMPTY_CLEAR_BYTES {
         return 0;
     }
     let called = called_length_of(bytes);

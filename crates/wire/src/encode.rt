@@ -1,9 +1,9 @@
 // A message to bytes. `write_message` tests before it writes, so a refusal leaves every byte.
 use crate::CLEAR;
-use crate::EMPTY_CLEAR_LENGTH;
-use crate::ENTRY_LENGTH;
+use crate::EMPTY_CLEAR_BYTES;
+use crate::ENTRY_BYTES;
 use crate::INCREMENT;
-use crate::INCREMENT_LENGTH;
+use crate::INCREMENT_BYTES;
 use crate::Message;
 use crate::VERSION;
 use crate::Written;
@@ -76,7 +76,7 @@ pub fn put_clear(m: Message, out: &mut [u8])
     let mut i: usize = 0;
     while i < len {
         // Each number is read where it is written: its byte stores then become one, and those of three numbers in a row do not.
-        let at = ENTRIES_AT + ENTRY_LENGTH * i;
+        let at = ENTRIES_AT + ENTRY_BYTES * i;
         number::write_u32(out, at, m.entries[i].card);
         number::write_u64(out, at + ENTRY_P_AT, m.entries[i].p);
         number::write_u64(out, at + ENTRY_C_AT, m.entries[i].c);
@@ -101,9 +101,9 @@ pub fn length_of(kind: u32, len: usize) -> usize
     ensures { λ r. ⌜ r ≡ cond (eqb kind 2) (28 + 20 * len) 36 ⌝ }
 {
     if kind == CLEAR {
-        return EMPTY_CLEAR_LENGTH + ENTRY_LENGTH * len;
+        return EMPTY_CLEAR_BYTES + ENTRY_BYTES * len;
     }
-    INCREMENT_LENGTH
+    INCREMENT_BYTES
 }
 
 fn decline(number: u64) -> Written
@@ -136,7 +136,7 @@ pub fn write_message(m: Message, out: &mut [u8]) -> Written
     }
     let length = length_of(m.kind, len);
     if out.len() < length {
-        return decline(protocol::OUTPUT_TOO_SHORT);
+        return decline(protocol::SHORT_OUTPUT);
     }
     if m.kind == CLEAR {
         put_clear(m, out);

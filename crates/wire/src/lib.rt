@@ -15,11 +15,11 @@ pub const INCREMENT: u32 = 1;
 pub const CLEAR: u32 = 2;
 
 // The lengths of an increment, of a clear without entries and of an entry.
-pub const INCREMENT_LENGTH: usize = 36;
+pub const INCREMENT_BYTES: usize = 36;
 
-const EMPTY_CLEAR_LENGTH: usize = 28;
+const EMPTY_CLEAR_BYTES: usize = 28;
 
-const ENTRY_LENGTH: usize = 20;
+const ENTRY_BYTES: usize = 20;
 
 // A message held whole: kind 1 uses `p` and `start`, kind 2 the first `len` entries. What its kind does not use is zero.
 #[repr(C)]

@@ -10,11 +10,11 @@ ghost use lib.Dec.{eqb};
 ghost use Rattle.wire.specs.Message.{entry-in-range};
 ghost use Rattle.wire.specs.Ranges.{from-one-to, header-fits, body-fits};
 
-const CARD_LIMIT: u32 = protocol::CARD_LIMIT as u32;
+const MOST_CARDS: u32 = protocol::MOST_CARDS as u32;
 
-const COUNTER_LIMIT: u32 = protocol::COUNTER_LIMIT as u32;
+const MOST_COUNTERS: u32 = protocol::MOST_COUNTERS as u32;
 
-pub(crate) const MOST_ENTRIES: usize = protocol::CARD_LIMIT as usize;
+pub(crate) const MOST_ENTRIES: usize = protocol::MOST_CARDS as usize;
 
 // One comparison, 0 wrapping past every bound: compared with MAX directly, a word just read from bytes would be read by halves.
 fn from_one(x: u64, most: u64) -> bool
@@ -27,9 +27,9 @@ pub(crate) fn header_in_range(version: u32, sender: u32, sequence: u64, counter:
     ensures { λ r. ⌜ r ≡ header-fits version sender sequence counter ⌝ }
 {
     (version == VERSION)
-        & (sender < CARD_LIMIT)
+        & (sender < MOST_CARDS)
         & from_one(sequence, protocol::MAX)
-        & (counter < COUNTER_LIMIT)
+        & (counter < MOST_COUNTERS)
 }
 
 // What the kind asks of the numbers past the header: those that it does not use are 0.
@@ -47,7 +47,7 @@ pub(crate) fn entry_in_range(low: u64, entry: ClearEntry) -> bool
     ensures { λ r. ⌜ r ≡ entry-in-range low entry ⌝ }
 {
     (low <= entry.card as u64)
-        & (entry.card < CARD_LIMIT)
+        & (entry.card < MOST_CARDS)
         & from_one(entry.p, entry.c)
         & from_one(entry.c, protocol::MAX)
 }

@@ -9,7 +9,7 @@ ghost use mathlib.Core.Path.{_≡_};
 ghost use Prim.Native.Nat.{_+_, _≤_};
 ghost use lib.ListN.{length};
 ghost use Rattle.wire.specs.Number.{number-at, int-at};
-ghost use Rattle.wire.specs.Parts.{header-at, increment-at, entry-read-at};
+ghost use Rattle.wire.specs.MessageParts.{header-at, increment-at, entry-read-at};
 
 pub(crate) struct Reader<'a> {
     pub src: &'a [u8],

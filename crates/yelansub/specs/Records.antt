@@ -7,37 +7,37 @@ use native.Mathlib.Numerals.{add-one}
 use lib.Dec.{eqb}
 use lib.ListN.{length, replicate, getD, drop, drop-of-length-le}
 use lib.Seq.{drop-cons}
-use Rattle.protocol.specs.Limits.{wrong-sizes}
+use Rattle.protocol.specs.Limits.{bad-sizes}
 use Rattle.replica_model.specs.Layout.{replica-length}
 use Rattle.chassis_model.specs.declared.Step.{Step}
 use Rattle.chassis_model.specs.Run.{State, RunOutcome, fresh-replicas, run-on}
 use Rattle.chassis_model.specs.Places.{fresh-reached}
 use Rattle.chassis.specs.declared.Sizes.{Sizes}
 use Rattle.chassis.specs.Begin.{lengths-right, sizes-by-length, right-lengths}
-use Rattle.chassis.specs.Turns.{state-of, Given, Turned}
+use Rattle.chassis.specs.Turns.{state-of, StepReady, StepAnswered}
 use Rattle.chassis.specs.Running.{Running, running-turn, running-done}
 
 abbrev pub sizes-for : ℕ → ℕ → ℕ → Sizes
-sizes-for r k L = record { cards = r; counters = k; capacity = L; replica = replica-length r k }
+sizes-for r k L = record { cards = r; counters = k; «log_bytes» = L; replica = replica-length r k }
 
 -- what beginning a run answers, and the words that it leaves
 abbrev pub Began : ℕ → ℕ → ℕ → ℕ → List ℕ → ℕ → ℕ → ℕ → List ℕ → Type 0
 Began r k L steps words logs answers n words′ =
-    (n ≡ cond (lengths-right r k L steps (length words) logs answers) 0 wrong-sizes)
+    (n ≡ cond (lengths-right r k L steps (length words) logs answers) 0 bad-sizes)
     × (words′ ≡ cond (lengths-right r k L steps (length words) logs answers) (fresh-replicas r k r) words)
 
 module _ (r k L steps : ℕ) (words : List ℕ) (logs answers : ℕ) where
-  pub began-wrong : lengths-right r k L steps (length words) logs answers ≡ false → Began r k L steps words logs answers wrong-sizes words
+  pub began-wrong : lengths-right r k L steps (length words) logs answers ≡ false → Began r k L steps words logs answers bad-sizes words
   began-wrong wrong = (rw wrong, rw wrong)
 
   pub began-right : (words′ : List ℕ) → lengths-right r k L steps (length words) logs answers ≡ true → words′ ≡ fresh-replicas r k r → Began r k L steps words logs answers 0 words′
   began-right words′ right fresh = (rw right, rw right fresh)
 
-right-of : (right : Bool) (n : ℕ) → n ≡ cond right 0 wrong-sizes → eqb n 0 ≡ true → right ≡ true
+right-of : (right : Bool) (n : ℕ) → n ≡ cond right 0 bad-sizes → eqb n 0 ≡ true → right ≡ true
 right-of true n e none = refl
 right-of false n e none = absurd (true≢false (sym none ∙ ap (λ (m : ℕ). eqb m 0) e))
 
-wrong-of : (right : Bool) (n : ℕ) → n ≡ cond right 0 wrong-sizes → eqb n 0 ≡ false → right ≡ false
+wrong-of : (right : Bool) (n : ℕ) → n ≡ cond right 0 bad-sizes → eqb n 0 ≡ false → right ≡ false
 wrong-of true n e other = absurd (true≢false (sym (ap (λ (m : ℕ). eqb m 0) e) ∙ other))
 wrong-of false n e other = refl
 
@@ -68,7 +68,7 @@ module _ (r k L : ℕ) (steps : List Step) (words logs answers : List ℕ) where
       pub begun-answers : length answers ≡ length steps
       begun-answers = right-lengths r k L (length steps) (length words) (length logs) (length answers) sizes-are .answers-fit
 
-      pub begun-given : Given (sizes-for r k L) words′ logs (replicate 256 0)
+      pub begun-given : StepReady (sizes-for r k L) words′ logs (replicate 256 0)
       begun-given =
           let facts = right-lengths r k L (length steps) (length words) (length logs) (length answers) sizes-are in
           record { replica-is = refl; reached = rw fresh (fresh-reached r k L logs (facts .sized) (facts .logs-fit)) }
@@ -84,7 +84,7 @@ module _ (r k L : ℕ) (steps : List Step) (words logs answers : List ℕ) where
 
 -- record i is taken
 pub record-turn : (r k L : ℕ) (steps : List Step) (first : State) (i j : ℕ) (d : Step) (words logs answers words′ logs′ answers′ places′ : List ℕ) → i < length steps
-    → Turned (sizes-for r k L) (getD steps i d) i words logs answers words′ logs′ answers′ places′ j
+    → StepAnswered (sizes-for r k L) (getD steps i d) i words logs answers words′ logs′ answers′ places′ j
     → Running r k L steps first (drop i steps) (state-of words logs) i answers → Running r k L steps first (drop j steps) (state-of words′ logs′) j answers′
 record-turn r k L steps first i j d words logs answers words′ logs′ answers′ places′ small turned running =
     rw (turned .next, turned .answers-are)

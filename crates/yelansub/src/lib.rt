@@ -82,13 +82,13 @@ pub extern "C" fn yelansub_waiting(log: &[u8], q: u64) -> Span
 pub extern "C" fn yelansub_run(
     cards: u64,
     counters: u64,
-    capacity: u64,
+    log_bytes: u64,
     steps: &[u8],
     words: &mut [u64],
     logs: &mut [u8],
     answers: &mut [u64],
 ) -> u64
-    ensures { λ a. ⌜ _≡_ {A = RunOutcome} (record { number = a; words = now (words .exit); logs = now (logs .exit); answers = now (answers .exit) }) (run-bytes-on cards counters capacity (now (steps .entry)) (now (words .entry)) (now (logs .entry)) (now (answers .entry))) ⌝ }
+    ensures { λ a. ⌜ _≡_ {A = RunOutcome} (record { number = a; words = now (words .exit); logs = now (logs .exit); answers = now (answers .exit) }) (run-bytes-on cards counters «log_bytes» (now (steps .entry)) (now (words .entry)) (now (logs .entry)) (now (answers .entry))) ⌝ }
 {
-    chassis::run::run(cards, counters, capacity, steps, words, logs, answers)
+    chassis::run::run(cards, counters, log_bytes, steps, words, logs, answers)
 }

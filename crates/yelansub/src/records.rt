@@ -8,23 +8,24 @@ ghost use mathlib.Core.Path.{_≡_};
 ghost use Prim.Native.Nat.{_<_};
 ghost use lib.ListN.{length};
 ghost use Rattle.chassis_model.specs.Run.{RunOutcome, run-on};
-ghost use Rattle.chassis.specs.Turns.{Given, Turned};
+ghost use Rattle.chassis.specs.Turns.{StepReady, StepAnswered};
 ghost use Rattle.yelansub.specs.Records.{Began, sizes-for};
 
 // Writes fresh replicas if the sizes are right. Only the words are lent: the other lengths are numbers.
 fn begin_records(
     cards: u64,
     counters: u64,
-    capacity: u64,
+    log_bytes: u64,
     steps: usize,
     words: &mut [u64],
     logs: usize,
     answers: usize,
 ) -> u64
-    ensures { λ n. ⌜ Began cards counters capacity steps (now (words .entry)) logs answers n (now (words .exit)) ⌝ }
+    ensures { λ n. ⌜ Began cards counters «log_bytes» steps (now (words .entry)) logs answers n (now (words .exit)) ⌝ }
 {
-    if !begin::sizes_are_right(cards, counters, capacity, steps, words.len(), logs, answers) {
-        return protocol::WRONG_SIZES;
+    let lent = words.len();
+    if !begin::sizes_are_right(cards, counters, log_bytes, steps, lent, logs, answers) {
+        return protocol::BAD_SIZES;
     }
     begin::fresh_all(words, cards as usize, counters as usize);
     0
@@ -34,7 +35,7 @@ fn begin_records(
 fn turn_record<'a>(
     cards: u64,
     counters: u64,
-    capacity: u64,
+    log_bytes: u64,
     s: Step,
     i: usize,
     words: &'a mut [u64],
@@ -42,15 +43,15 @@ fn turn_record<'a>(
     answers: &'a mut [u64],
     places: &'a mut [u64; 256],
 ) -> usize
-    requires { ⌜ Given (sizes-for cards counters capacity) (now words) (now logs) (now places) × (i < length (now answers)) ⌝ }
-    ensures { λ n. ⌜ Turned (sizes-for cards counters capacity) s i (now (words .entry)) (now (logs .entry)) (now (answers .entry)) (now (words .exit)) (now (logs .exit)) (now (answers .exit)) (now (places .exit)) n ⌝ }
+    requires { ⌜ StepReady (sizes-for cards counters «log_bytes») (now words) (now logs) (now places) × (i < length (now answers)) ⌝ }
+    ensures { λ n. ⌜ StepAnswered (sizes-for cards counters «log_bytes») s i (now (words .entry)) (now (logs .entry)) (now (answers .entry)) (now (words .exit)) (now (logs .exit)) (now (answers .exit)) (now (places .exit)) n ⌝ }
 {
     let r = cards as usize;
     let k = counters as usize;
     let z = Sizes {
         cards: r,
         counters: k,
-        capacity: capacity as usize,
+        log_bytes: log_bytes as usize,
         replica: words::replica_words(r, k),
     };
     stepping::turn(z, s, i, words, logs, answers, places)
@@ -63,18 +64,18 @@ fn turn_record<'a>(
 pub extern "C" fn yelansub_run_records(
     cards: u64,
     counters: u64,
-    capacity: u64,
+    log_bytes: u64,
     steps: &[Step],
     words: &mut [u64],
     logs: &mut [u8],
     answers: &mut [u64],
 ) -> u64
-    ensures { λ a. ⌜ _≡_ {A = RunOutcome} (record { number = a; words = now (words .exit); logs = now (logs .exit); answers = now (answers .exit) }) (run-on cards counters capacity (now (steps .entry)) (now (words .entry)) (now (logs .entry)) (now (answers .entry))) ⌝ }
+    ensures { λ a. ⌜ _≡_ {A = RunOutcome} (record { number = a; words = now (words .exit); logs = now (logs .exit); answers = now (answers .exit) }) (run-on cards counters «log_bytes» (now (steps .entry)) (now (words .entry)) (now (logs .entry)) (now (answers .entry))) ⌝ }
 {
     let number = begin_records(
         cards,
         counters,
-        capacity,
+        log_bytes,
         steps.len(),
         words,
         logs.len(),
@@ -89,7 +90,7 @@ pub extern "C" fn yelansub_run_records(
         i = turn_record(
             cards,
             counters,
-            capacity,
+            log_bytes,
             steps[i],
             i,
             words,

@@ -6,7 +6,7 @@ use native.Mathlib.Nat.{mul-le-mul}
 use native.Mathlib.Omega.{arith}
 use borrow.Author.Needs.{needs}
 use Rattle.replica_model.specs.Calls.{sizes-in-range}
-use Rattle.replica_model.specs.Terms.{Sizes}
+use Rattle.replica_model.specs.ClaimTerms.{Sizes}
 use Rattle.replica_model.specs.RowLaws.{sizes}
 use Rattle.chassis.proofs.begin.sizes_are_right.Statement.{statement}
 use Rattle.chassis.proofs.begin.sizes_are_right.Tie as tie

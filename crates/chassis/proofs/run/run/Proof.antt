@@ -14,7 +14,7 @@ use Rattle.chassis.proofs.run.run.Tie as tie
 returns : tie.Need-returns
 returns c =
     let args = c .before .before .before .before .before .args in
-    run-uneven (args .cards) (args .counters) (args .capacity) (now (args .steps)) (now (args .words)) (now (args .logs)) (now (args .answers)) (c .if1 .taken)
+    run-uneven (args .cards) (args .counters) (args .log-bytes) (now (args .steps)) (now (args .words)) (now (args .logs)) (now (args .answers)) (c .if1 .taken)
 
 sizes-are-right-requires : tie.Need-sizes-are-right-requires
 sizes-are-right-requires c κs = search needs
@@ -22,20 +22,20 @@ sizes-are-right-requires c κs = search needs
 returns-2 : tie.Need-returns-2
 returns-2 c =
     let args = c .before .before .before .before .before .before .before .args in
-    run-declined (args .cards) (args .counters) (args .capacity) (now (args .steps)) (now (args .words)) (now (args .logs)) (now (args .answers))
+    run-declined (args .cards) (args .counters) (args .log-bytes) (now (args .steps)) (now (args .words)) (now (args .logs)) (now (args .answers))
     (c .before .before .if1 .left) (sym (c .before .sizes-are-right .ensures) ∙ not-true _ (c .if2 .taken))
 
 -- the sizes are right
 right : (c : tie.Else2)
     → let args = c .before .before .before .before .before .before .before .args in
-    lengths-right (args .cards) (args .counters) (args .capacity) (length (now (args .steps)) / 12) (length (now (args .words))) (length (now (args .logs)))
+    lengths-right (args .cards) (args .counters) (args .log-bytes) (length (now (args .steps)) / 12) (length (now (args .words))) (length (now (args .logs)))
     (length (now (args .answers)))
     ≡ true
 right c = sym (c .before .sizes-are-right .ensures) ∙ not-false _ (c .if2 .left)
 
 facts : (c : tie.Else2)
     → let args = c .before .before .before .before .before .before .before .args in
-    RightLengths (args .cards) (args .counters) (args .capacity) (length (now (args .steps)) / 12) (length (now (args .words))) (length (now (args .logs)))
+    RightLengths (args .cards) (args .counters) (args .log-bytes) (length (now (args .steps)) / 12) (length (now (args .words))) (length (now (args .logs)))
     (length (now (args .answers)))
 facts c = right-lengths _ _ _ _ _ _ _ (right c)
 
@@ -53,7 +53,7 @@ run-steps-requires c κs =
     let fresh = sized .before .before .before in
     let sizes = fresh .before .before in
     let args = sizes .before .before .before .before .before .before .before .args in
-    steps-given (args .cards) (args .counters) (args .capacity) (now (args .steps)) (now (args .words)) (now (args .logs)) (now (args .answers))
+    steps-given (args .cards) (args .counters) (args .log-bytes) (now (args .steps)) (now (args .words)) (now (args .logs)) (now (args .answers))
     (sizes .before .before .if1 .left) (right sizes) _ _ (sized .replica-words .ensures) (fresh .fresh-all .ensures)
 
 same-length : tie.Need-same-length
@@ -72,7 +72,7 @@ returns-3 c =
     let fresh = sized .before .before .before in
     let sizes = fresh .before .before in
     let args = sizes .before .before .before .before .before .before .before .args in
-    run-done (args .cards) (args .counters) (args .capacity) (now (args .steps)) (now (args .words)) (now (args .logs)) (now (args .answers))
+    run-done (args .cards) (args .counters) (args .log-bytes) (now (args .steps)) (now (args .words)) (now (args .logs)) (now (args .answers))
     (sizes .before .before .if1 .left) (right sizes) _ _ _ _ _ (fresh .fresh-all .ensures) (done .run-steps .ensures)
 
 pub run-spec : {M : Type 1} → statement M

@@ -4,15 +4,15 @@ use mathlib.Core.Path.{_≡_, refl, sym, _∙_}
 use native.Mathlib.Omega.{arith}
 use lib.ListN.{length}
 use denote.Ref.{now}
-use Rattle.chassis.specs.Turns.{state-of, Given, answers-long}
+use Rattle.chassis.specs.Turns.{state-of, StepReady, answers-long}
 use Rattle.chassis.specs.Running.{RunningBytes, bytes-begin, bytes-turn, bytes-done}
 use Rattle.chassis.proofs.run.run_steps.Statement.{statement}
 use Rattle.chassis.proofs.run.run_steps.Tie as tie
 
 abbrev Inv-loop : tie.InvT-loop
 Inv-loop z bytes words₀ logs₀ answers₀ places₀ i₀ words logs answers places i =
-    Given z words logs places
-    × RunningBytes (z .cards) (z .counters) (z .capacity) bytes (state-of words₀ logs₀) (state-of words logs) i answers
+    StepReady z words logs places
+    × RunningBytes (z .cards) (z .counters) (z .«log_bytes») bytes (state-of words₀ logs₀) (state-of words logs) i answers
     × (length answers ≡ length answers₀)
 
 abbrev μ-loop : tie.MeasureT-loop
@@ -23,7 +23,7 @@ loop-holds c =
     let start = c .before .before .before .before in
     let args = start .args in (
       start .pre .0,
-      bytes-begin (args .z .cards) (args .z .counters) (args .z .capacity) (now (args .bytes)) (state-of (now (args .words)) (now (args .logs))) (now (args .answers)) (start .pre .1),
+      bytes-begin (args .z .cards) (args .z .counters) (args .z .«log_bytes») (now (args .bytes)) (state-of (now (args .words)) (now (args .logs))) (now (args .answers)) (start .pre .1),
       refl,
     )
 
@@ -60,7 +60,7 @@ loop-again c =
     let start = inside .before .before .before .before .before .before in
     let args = start .args in
     let done = turn .turn .ensures in
-    let more = bytes-turn (args .z .cards) (args .z .counters) (args .z .capacity) (now (args .bytes)) (state-of (now (args .words)) (now (args .logs)))
+    let more = bytes-turn (args .z .cards) (args .z .counters) (args .z .«log_bytes») (now (args .bytes)) (state-of (now (args .words)) (now (args .logs)))
     (step .step-from .result) (state-of (loop .words) (loop .logs)) _ (loop .i) _ (loop .answers) (inside .loop-test .taken) (step .step-from .ensures)
     refl (done .state-is) (loop .inv .1) in
     (done .given, rw (done .next, done .answers-are) more, answers-long done ∙ loop .inv .2)
@@ -83,7 +83,7 @@ returns c =
     let start = c .before .before .before .before .before .before in
     let args = start .args in
     let loop = c .before .loop in
-    let all = bytes-done (args .z .cards) (args .z .counters) (args .z .capacity) (now (args .bytes)) (state-of (now (args .words)) (now (args .logs)))
+    let all = bytes-done (args .z .cards) (args .z .counters) (args .z .«log_bytes») (now (args .bytes)) (state-of (now (args .words)) (now (args .logs)))
     (state-of (loop .words) (loop .logs)) (loop .i) (loop .answers) (c .loop-test .left) (loop .inv .1) in
     record { state-is = sym (all .0); answers-are = sym (all .1) }
 

@@ -9,7 +9,7 @@ use lib.Seq.{length-take-le}
 use denote.Ref.{now}
 use borrow.Author.Needs.{needs}
 use Rattle.wire.specs.Message.{called-length}
-use Rattle.chassis_model.specs.Parts.{part, put-part}
+use Rattle.chassis_model.specs.ListParts.{part, put-part}
 use Rattle.chassis_model.specs.Run.{N-at}
 use Rattle.chassis_model.specs.Places.{WaitsAt, waits-at}
 use Rattle.chassis.specs.Turns.{state-of, words-long, words-room, logs-room, log-long, none-did, delivered-did}
@@ -25,7 +25,7 @@ words-end c = words-room (c .args .z) (now (c .args .words)) (now (c .args .logs
 words-fit : (c : tie.After-slice-known) → let args = c .before .args in (args .receiver * args .z .replica + args .z .replica) * 8 < 18446744073709551616
 words-fit c = omega (arith, words-end (c .before))
 
-logs-end : (c : tie.Start) → c .args .sender * c .args .z .capacity + c .args .z .capacity ≤ length (now (c .args .logs))
+logs-end : (c : tie.Start) → c .args .sender * c .args .z .«log_bytes» + c .args .z .«log_bytes» ≤ length (now (c .args .logs))
 logs-end c = logs-room (c .args .z) (now (c .args .words)) (now (c .args .logs)) (now (c .args .places)) (c .pre .0) (c .args .sender) (c .pre .2)
 
 received-requires : tie.Need-received-requires
@@ -74,8 +74,8 @@ returns c =
 waits : (c : tie.Else1)
     → let args = c .before .before .before .before .before .before .before .args in
     let st = state-of (now (args .words)) (now (args .logs)) in
-    N-at (args .z .cards) (args .z .counters) (args .z .capacity) st (args .receiver) (args .sender)
-    < N-at (args .z .cards) (args .z .counters) (args .z .capacity) st (args .sender) (args .sender)
+    N-at (args .z .cards) (args .z .counters) (args .z .«log_bytes») st (args .receiver) (args .sender)
+    < N-at (args .z .cards) (args .z .counters) (args .z .«log_bytes») st (args .sender) (args .sender)
 waits c =
     let had = c .before in
     let made = had .before .before in
@@ -86,14 +86,14 @@ waits c =
 stands : (c : tie.After-link)
     → let args = c .before .before .before .before .before .before .before .before .args in
     let st = state-of (now (args .words)) (now (args .logs)) in
-    WaitsAt (args .z .capacity) (part (args .z .capacity) (now (args .logs)) (args .sender))
-    (N-at (args .z .cards) (args .z .counters) (args .z .capacity) st (args .receiver) (args .sender)) (getD (now (args .places)) (c .link .result) 0)
+    WaitsAt (args .z .«log_bytes») (part (args .z .«log_bytes») (now (args .logs)) (args .sender))
+    (N-at (args .z .cards) (args .z .counters) (args .z .«log_bytes») st (args .receiver) (args .sender)) (getD (now (args .places)) (c .link .result) 0)
 stands c =
     let start = c .before .before .before .before .before .before .before .before in
     let args = start .args in
     let z = args .z in
     rw (c .link .ensures .0)
-    (waits-at (z .cards) (z .counters) (z .capacity) (state-of (now (args .words)) (now (args .logs))) (now (args .places)) (start .pre .0 .reached)
+    (waits-at (z .cards) (z .counters) (z .«log_bytes») (state-of (now (args .words)) (now (args .logs))) (now (args .places)) (start .pre .0 .reached)
     (args .receiver) (args .sender) (start .pre .1) (start .pre .2) (waits (c .before)))
 
 link-requires : tie.Need-link-requires
@@ -131,25 +131,25 @@ next-message-requires c κs =
     let args = start .args in
     let here = stands link in
     let long = log-long (args .z) (now (args .words)) (now (args .logs)) (now (args .places)) (start .pre .0) (args .sender) (start .pre .2) in
-    rw (add-sub-cancel-left (args .sender * args .z .capacity) (args .z .capacity), long) (here .inside, here .header, here .room)
+    rw (add-sub-cancel-left (args .sender * args .z .«log_bytes») (args .z .«log_bytes»), long) (here .inside, here .header, here .room)
 
 -- the part that is handed to take
 message-is : (c : tie.After-next-message)
     → let link = c .before .before .before .before .before in
     let args = link .before .before .before .before .before .before .before .before .args in
-    let rest = drop (getD (now (args .places)) (link .link .result) 0) (part (args .z .capacity) (now (args .logs)) (args .sender)) in
+    let rest = drop (getD (now (args .places)) (link .link .result) 0) (part (args .z .«log_bytes») (now (args .logs)) (args .sender)) in
     now (c .next-message .result) ≡ take (called-length rest) rest
 unfolding part
 message-is c =
     let link = c .before .before .before .before .before in
     let args = link .before .before .before .before .before .before .before .before .args in
-    rw (add-sub-cancel-left (args .sender * args .z .capacity) (args .z .capacity)) at (c .next-message .ensures .holds)
+    rw (add-sub-cancel-left (args .sender * args .z .«log_bytes») (args .z .«log_bytes»)) at (c .next-message .ensures .holds)
 
 -- where it ends
 message-end : (c : tie.After-next-message)
     → let link = c .before .before .before .before .before in
     let args = link .before .before .before .before .before .before .before .before .args in
-    getD (now (args .places)) (link .link .result) 0 + length (now (c .next-message .result)) ≤ args .z .capacity
+    getD (now (args .places)) (link .link .result) 0 + length (now (c .next-message .result)) ≤ args .z .«log_bytes»
 message-end c =
     let here = stands (c .before .before .before .before .before) in
     rw (message-is c, length-take-le _ _ (here .room)) (here .within)

@@ -10,7 +10,7 @@ use mir.Val.{Fits}
 use denote.Ref.{now}
 use borrow.Author.Needs.{needs}
 use Rattle.replica_model.specs.Calls.{SendOutcome}
-use Rattle.chassis_model.specs.Parts.{part, put-part}
+use Rattle.chassis_model.specs.ListParts.{part, put-part}
 use Rattle.chassis.specs.Turns.{appended, words-room, logs-room, log-long, place-small, made-did, made-place}
 use Rattle.chassis.proofs.stepping.make.Statement.{statement}
 use Rattle.chassis.proofs.stepping.make.Tie as tie
@@ -19,22 +19,22 @@ use Rattle.chassis.proofs.stepping.make.Tie as tie
 words-end : (s : tie.Start) → let args = s .args in args .card * args .z .replica + args .z .replica ≤ length (now (args .words))
 words-end s = words-room _ _ _ _ (s .pre .0) (s .args .card) (s .pre .1)
 
-logs-end : (s : tie.Start) → let args = s .args in args .card * args .z .capacity + args .z .capacity ≤ length (now (args .logs))
+logs-end : (s : tie.Start) → let args = s .args in args .card * args .z .«log_bytes» + args .z .«log_bytes» ≤ length (now (args .logs))
 logs-end s = logs-room _ _ _ _ (s .pre .0) (s .args .card) (s .pre .1)
 
-capacity-fits : (c : tie.After-slice-known2) → Fits w64 (c .before .before .args .z .capacity)
+capacity-fits : (c : tie.After-slice-known2) → Fits w64 (c .before .before .args .z .«log_bytes»)
 capacity-fits c = omega (arith, logs-end (c .before .before))
 
 -- what the call left, of the parts and the place by name
 sent-is : (c : tie.After-append) → let args = c .before .before .before .before .before .before .before .before .before .before .before .args in
     _≡_ {A = SendOutcome} (record { answer = c .append .result; words = c .append .last .1 .0; out = c .append .last .1 .1 .1 .0 })
-    (appended (args .counts) (args .counter) (part (args .z .replica) (now (args .words)) (args .card)) (part (args .z .capacity) (now (args .logs)) (args .card))
+    (appended (args .counts) (args .counter) (part (args .z .replica) (now (args .words)) (args .card)) (part (args .z .«log_bytes») (now (args .logs)) (args .card))
     (getD (now (args .places)) (16 * args .card + args .card) 0))
 unfolding part
 sent-is c =
     let link = c .before .before .before .before .before .before .before .before in
     let args = link .before .before .before .args in
-    rw (add-sub-cancel-left (args .card * args .z .replica) (args .z .replica), add-sub-cancel-left (args .card * args .z .capacity) (args .z .capacity), link .link .ensures .0) at
+    rw (add-sub-cancel-left (args .card * args .z .replica) (args .z .replica), add-sub-cancel-left (args .card * args .z .«log_bytes») (args .z .«log_bytes»), link .link .ensures .0) at
     (c .append .ensures)
 
 link-requires : tie.Need-link-requires
@@ -90,7 +90,7 @@ append-requires c κs =
     let start = link .before .before .before in
     let args = start .args in
     let inside = place-small _ _ _ _ (start .pre .0) (args .card) (args .card) (start .pre .1) (start .pre .1) in
-    rw (add-sub-cancel-left (args .card * args .z .capacity) (args .z .capacity), link .link .ensures .0, log-long _ _ _ _ (start .pre .0) (args .card) (start .pre .1)) inside
+    rw (add-sub-cancel-left (args .card * args .z .«log_bytes») (args .z .«log_bytes»), link .link .ensures .0, log-long _ _ _ _ (start .pre .0) (args .card) (start .pre .1)) inside
 
 add-places : tie.Need-add-places
 add-places c =
@@ -98,7 +98,7 @@ add-places c =
     let link = append .before .before .before .before .before .before .before .before in
     let start = link .before .before .before in
     let args = start .args in
-    let inside : getD (now (args .places)) (link .link .result) 0 + append .append .result .length ≤ args .z .capacity
+    let inside : getD (now (args .places)) (link .link .result) 0 + append .append .result .length ≤ args .z .«log_bytes»
     = rw (link .link .ensures .0)
     (made-place _ _ _ _ (start .pre .0) (args .counts) (args .card) (args .counter) _ _ _ _ (start .pre .1) refl (sent-is append)) in
     let fits : Fits w64 (getD (now (args .places)) (link .link .result) 0 + append .append .result .length) = omega (arith, inside, capacity-fits (link .before)) in
@@ -130,7 +130,7 @@ returns c =
     let link = append .before .before .before .before .before .before .before .before in
     let start = link .before .before .before in
     let args = start .args in
-    rw (add-sub-cancel-left (args .card * args .z .replica) (args .z .replica), add-sub-cancel-left (args .card * args .z .capacity) (args .z .capacity), link .link .ensures .0)
+    rw (add-sub-cancel-left (args .card * args .z .replica) (args .z .replica), add-sub-cancel-left (args .card * args .z .«log_bytes») (args .z .«log_bytes»), link .link .ensures .0)
     (made-did _ _ _ _ (start .pre .0) (args .counts) (args .card) (args .counter) _ _ _ _ _ (start .pre .1) refl (sent-is append) (c .step-number .ensures))
 
 pub make-spec : {M : Type 1} → statement M

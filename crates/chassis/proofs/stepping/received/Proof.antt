@@ -5,8 +5,8 @@ use native.Mathlib.Omega.{arith}
 use lib.ListN.{length}
 use denote.Ref.{now}
 use borrow.Author.Needs.{needs}
-use Rattle.chassis_model.specs.Parts.{part}
-use Rattle.chassis_model.specs.PartLaws.{part-room, part-length}
+use Rattle.chassis_model.specs.ListParts.{part}
+use Rattle.chassis_model.specs.ListPartsLaws.{part-room, part-length}
 use Rattle.chassis.proofs.stepping.received.Statement.{statement}
 use Rattle.chassis.proofs.stepping.received.Tie as tie
 

@@ -1,6 +1,6 @@
 -- The part from card times the length on.
 use native.Mathlib.Nat.{add-sub-cancel-left}
-use Rattle.chassis_model.specs.Parts.{part}
+use Rattle.chassis_model.specs.ListParts.{part}
 use borrow.Author.Needs.{needs}
 use Rattle.listing.proofs.lines.replica_of.Statement.{statement}
 use Rattle.listing.proofs.lines.replica_of.Tie as tie

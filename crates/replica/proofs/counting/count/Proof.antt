@@ -1,4 +1,4 @@
--- The refusal says which check failed, or that none did (`sending-refused`, `sending-passed`). Assumes nothing.
+-- The refusal says which check failed, or that none did (`sending-refused`, `sending-passed`).
 use borrow.Author.Needs.{needs}
 use mathlib.Core.Path.{_≡_, sym, _∙_}
 use native.Mathlib.Omega.{arith}

@@ -1,4 +1,4 @@
--- By its test. Assumes nothing.
+-- By its test.
 use borrow.Author.Needs.{needs}
 use borrow.Author.Tests.{lt-ltb, le-ltb}
 use Rattle.replica.proofs.counting.next_p.Statement.{statement}

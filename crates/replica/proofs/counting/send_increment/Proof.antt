@@ -1,4 +1,4 @@
--- The numbers found and made are those of `count-message`, by `count-sent`; a well-formed row says that they fit. Assumes nothing.
+-- The numbers found and made are those of `count-message`, by `count-sent`; a well-formed row says that they fit.
 use borrow.Author.Needs.{needs}
 use mathlib.Core.Path.{refl}
 use native.Mathlib.Omega.{arith}

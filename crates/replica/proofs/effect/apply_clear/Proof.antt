@@ -1,4 +1,4 @@
--- The invariant speaks of what is left (`Clearing`): the entries from i on make of the present words what all of them make of the first words. Assumes nothing.
+-- The invariant speaks of what is left (`Clearing`): the entries from i on make of the present words what all of them make of the first words.
 use borrow.Author.Needs.{needs}
 use Prim.Native.Nat.{_-_, _≤_}
 use mathlib.Core.Path.{_≡_}

@@ -1,4 +1,4 @@
--- The entry is changed by `incremented`, then the message is counted; the store of the entry leaves C and N (`receives-entry`, `increment-taken`). Assumes nothing.
+-- The entry is changed by `incremented`, then the message is counted; the store of the entry leaves C and N (`receives-entry`, `increment-taken`).
 use borrow.Author.Needs.{needs}
 use native.Mathlib.Omega.{arith}
 use denote.Ref.{now}

@@ -1,4 +1,4 @@
--- The entry that stands there, changed by `cleared`, and put back. Assumes nothing.
+-- The entry that stands there, changed by `cleared`, and put back.
 use borrow.Author.Needs.{needs}
 use Rattle.replica.proofs.effect.clear_entry.Statement.{statement}
 use Rattle.replica.proofs.effect.clear_entry.Tie as tie

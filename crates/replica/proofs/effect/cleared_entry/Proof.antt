@@ -1,4 +1,4 @@
--- By the cases of `cleared`: an entry that is present, one that is absent and still awaited, one that is absent. Assumes nothing.
+-- By the cases of `cleared`: an entry that is present, one that is absent and still awaited, one that is absent.
 use borrow.Author.Needs.{needs}
 use mathlib.Core.Path.{_∙_}
 use borrow.Author.Tests.{lt-ltb, le-ltb}

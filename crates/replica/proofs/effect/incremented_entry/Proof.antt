@@ -1,4 +1,4 @@
--- The parts are those of `incremented`, in its order. Assumes nothing.
+-- The parts are those of `incremented`, in its order.
 use borrow.Author.Needs.{needs}
 use mathlib.Core.Path.{_∙_}
 use Rattle.protocol.specs.Entry.{incremented}

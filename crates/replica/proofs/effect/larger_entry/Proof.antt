@@ -1,4 +1,4 @@
--- Each field is the larger of the two. Assumes nothing.
+-- Each field is the larger of the two.
 use borrow.Author.Needs.{needs}
 use Rattle.replica.proofs.effect.larger_entry.Statement.{statement}
 use Rattle.replica.proofs.effect.larger_entry.Tie as tie

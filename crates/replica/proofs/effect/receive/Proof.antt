@@ -1,4 +1,4 @@
--- Two stores, of what the two loads before them found. Assumes nothing.
+-- Two stores, of what the two loads before them found.
 use borrow.Author.Needs.{needs}
 use Rattle.replica.proofs.effect.receive.Statement.{statement}
 use Rattle.replica.proofs.effect.receive.Tie as tie

@@ -1,4 +1,4 @@
--- By its test. Assumes nothing.
+-- By its test.
 use mathlib.Core.Path.{sym, ap}
 use mathlib.Core.Bool.{Bool}
 use Rattle.protocol.specs.Entry.{removeIf}

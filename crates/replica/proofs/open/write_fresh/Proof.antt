@@ -4,11 +4,11 @@ use mathlib.Core.Path.{_≡_, _∙_}
 use native.Mathlib.Omega.{arith}
 use lib.ListN.{replicate}
 use borrow.Author.Needs.{needs}
-use Rattle.replica_model.specs.Layout.{replica-length, three, fresh-words}
+use Rattle.replica_model.specs.Layout.{replica-length, set-three, fresh-words}
 use Rattle.replica.proofs.open.write_fresh.Statement.{statement}
 use Rattle.replica.proofs.open.write_fresh.Tie as tie
 
-made : (n r k own : ℕ) → n ≡ replica-length r k → three (replicate {A = ℕ} n 0) 0 r k own ≡ fresh-words r k own
+made : (n r k own : ℕ) → n ≡ replica-length r k → set-three (replicate {A = ℕ} n 0) 0 r k own ≡ fresh-words r k own
 unfolding fresh-words
 made n r k own e = let long : n ≡ suc (suc (suc (2 * r + 3 * (r * k)))) = omega arith in rw long
 

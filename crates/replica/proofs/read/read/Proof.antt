@@ -7,7 +7,7 @@ use borrow.Author.Tests.{not-true, not-false, le-ltb, lt-ltb}
 use denote.Ref.{now}
 use Rattle.replica_model.specs.Layout.{counters}
 use Rattle.replica_model.specs.Calls.{right, row-well-formed, read-on}
-use Rattle.replica.specs.Rows.{Row, row, right-long}
+use Rattle.replica.specs.RowFacts.{Row, row, right-long}
 use Rattle.replica.proofs.read.read.Statement.{statement}
 use Rattle.replica.proofs.read.read.Tie as tie
 

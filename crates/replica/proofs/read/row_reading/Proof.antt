@@ -11,10 +11,10 @@ use Rattle.protocol.specs.Limits.{MAX}
 use Rattle.protocol.specs.Entry.{present}
 use Rattle.protocol.specs.Tables.{sum, bits}
 use Rattle.protocol.specs.Chassis.{read-value, read-holders}
-use Rattle.protocol.specs.Stores.{shown}
+use Rattle.protocol.specs.StoreLaws.{shown}
 use Rattle.replica_model.specs.Layout.{entry-of}
 use Rattle.replica_model.specs.Calls.{reading}
-use Rattle.replica.specs.Rows.{card-facts}
+use Rattle.replica.specs.RowFacts.{card-facts}
 use Rattle.protocol.specs.Rows.{WellFormed}
 use Rattle.protocol.specs.Limits.{MAX}
 use Rattle.replica.specs.Sums.{sum-turn, sum-below, bits-turn, bits-below, ones-bits}

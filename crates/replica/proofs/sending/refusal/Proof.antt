@@ -1,4 +1,4 @@
--- Each return is the case of `send-refusal` where the checks before it have passed; they also give what the next one asks. Assumes nothing.
+-- Each return is the case of `send-refusal` where the checks before it have passed; they also give what the next one asks.
 use borrow.Author.Needs.{needs}
 use mathlib.Core.Path.{_≡_, sym, _∙_}
 use mathlib.Core.Bool.{true}
@@ -8,7 +8,7 @@ use denote.Ref.{now}
 use borrow.Author.Tests.{not-true, not-false, lt-ltb, le-ltb, eq-eqb, ne-eqb}
 use Rattle.replica_model.specs.Layout.{cards, counters, own-card, N-of}
 use Rattle.replica_model.specs.Calls.{right, row-well-formed}
-use Rattle.replica.specs.Rows.{Row, right-long, row}
+use Rattle.replica.specs.RowFacts.{Row, right-long, row}
 use Rattle.replica.specs.SendLaws.{send-refusal}
 use Rattle.replica.proofs.sending.refusal.Statement.{statement}
 use Rattle.replica.proofs.sending.refusal.Tie as tie

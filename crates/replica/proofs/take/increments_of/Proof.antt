@@ -3,7 +3,7 @@ use native.Mathlib.Omega.{arith}
 use borrow.Author.Needs.{needs}
 use borrow.Author.Tests.{lt-ltb, le-ltb}
 use denote.Ref.{now}
-use Rattle.replica.specs.Rows.{right-inside}
+use Rattle.replica.specs.RowFacts.{right-inside}
 use Rattle.replica.proofs.take.increments_of.Statement.{statement}
 use Rattle.replica.proofs.take.increments_of.Tie as tie
 

@@ -11,7 +11,7 @@ use Rattle.protocol.specs.Limits.{MAX}
 use Rattle.protocol.specs.Cases.{and-left}
 use Rattle.replica_model.specs.Layout.{cards, counters, own-card, N-of}
 use Rattle.replica_model.specs.Calls.{row-well-formed}
-use Rattle.replica.specs.Rows.{Row, row, right-long, card-facts}
+use Rattle.replica.specs.RowFacts.{Row, row, right-long, card-facts}
 use Rattle.replica.specs.Taking.{refusal}
 use Rattle.replica.proofs.take.refusal_of.Statement.{statement}
 use Rattle.replica.proofs.take.refusal_of.Tie as tie

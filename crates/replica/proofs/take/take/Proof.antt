@@ -7,7 +7,7 @@ use borrow.Author.Tests.{not-true, not-false}
 use denote.Ref.{now}
 use Rattle.wire.specs.Number.{int-at}
 use Rattle.wire.specs.Message.{clear-kind, reads}
-use Rattle.wire.specs.PartsLaws.{header-read, increment-read}
+use Rattle.wire.specs.MessagePartsLaws.{header-read, increment-read}
 use Rattle.wire.specs.RoundTrips.{read-long, read-exact, read-increment}
 use Rattle.replica_model.specs.Calls.{right, take-on}
 use Rattle.replica.specs.Taking.{read-p}

@@ -12,11 +12,11 @@ use denote.Ref.{now}
 use Rattle.wire.specs.Number.{int-at}
 use Rattle.wire.specs.Message.{no-entry, entries-at, message-at}
 use Rattle.wire.specs.EntriesLaws.{holding, entries-stored}
-use Rattle.wire.specs.PartsLaws.{HeaderRead, header-read, CountRead, count-read, entry-part}
+use Rattle.wire.specs.MessagePartsLaws.{HeaderRead, header-read, CountRead, count-read, entry-part}
 use Rattle.wire.specs.RoundTrips.{read-long, read-count, clear-parts}
 use Rattle.replica_model.specs.Layout.{own-card, C-of}
 use Rattle.replica_model.specs.Calls.{all-entries, entry-plausible}
-use Rattle.replica.specs.Rows.{right-long, right-own}
+use Rattle.replica.specs.RowFacts.{right-long, right-own}
 use Rattle.replica.specs.Taking.{entry-test, all-entries-turn, all-entries-none, entries-plausible, refusal, known-entries, is-passed, receives, taking-refused, clear-declined, clear-taken, cards-are-below, ClearRead, clear-read}
 use Rattle.replica.proofs.take.take_clear.Statement.{statement}
 use Rattle.replica.proofs.take.take_clear.Tie as tie

@@ -5,7 +5,7 @@ use native.Mathlib.Omega.{arith}
 use borrow.Author.Needs.{needs}
 use borrow.Author.Tests.{not-true, not-false}
 use denote.Ref.{now}
-use Rattle.replica.specs.Rows.{right-long}
+use Rattle.replica.specs.RowFacts.{right-long}
 use Rattle.replica.specs.Taking.{refusal, is-passed, sender-facts, sender-inside, receives, increment-refused, increment-declined, increment-taken}
 use Rattle.replica.proofs.take.take_increment.Statement.{statement}
 use Rattle.replica.proofs.take.take_increment.Tie as tie

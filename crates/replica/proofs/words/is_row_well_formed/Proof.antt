@@ -7,7 +7,7 @@ use borrow.Author.Count.{below-none, below-more}
 use borrow.Author.Needs.{needs}
 use borrow.Author.Tests.{not-true, not-false}
 use Rattle.replica_model.specs.Calls.{card-well-formed}
-use Rattle.replica.specs.Rows.{row-fails, row-passes}
+use Rattle.replica.specs.RowFacts.{row-fails, row-passes}
 use Rattle.replica.proofs.words.is_row_well_formed.Statement.{statement}
 use Rattle.replica.proofs.words.is_row_well_formed.Tie as tie
 

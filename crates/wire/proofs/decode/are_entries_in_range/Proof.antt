@@ -9,7 +9,7 @@ use lib.ListN.{length}
 use denote.Ref.{now}
 use Rattle.wire.specs.Message.{entries-at, entries-in-range}
 use Rattle.wire.specs.EntriesLaws.{entries-passed, entries-failed}
-use Rattle.wire.specs.PartsLaws.{entry-part}
+use Rattle.wire.specs.MessagePartsLaws.{entry-part}
 use Rattle.wire.proofs.decode.are_entries_in_range.Statement.{statement}
 use Rattle.wire.proofs.decode.are_entries_in_range.Tie as tie
 

@@ -4,7 +4,7 @@ use borrow.Author.Tests.{eq-eqb, ne-eqb}
 use native.Mathlib.Omega.{arith}
 use denote.Ref.{now}
 use Rattle.wire.specs.Message.{called-length}
-use Rattle.wire.specs.PartsLaws.{header-read, count-read}
+use Rattle.wire.specs.MessagePartsLaws.{header-read, count-read}
 use Rattle.wire.proofs.decode.called_length_of.Statement.{statement}
 use Rattle.wire.proofs.decode.called_length_of.Tie as tie
 

@@ -8,7 +8,7 @@ use lib.ListN.{length, replicate}
 use denote.Ref.{now}
 use Rattle.wire.specs.Message.{no-entry, entries-at}
 use Rattle.wire.specs.EntriesLaws.{holding, entries-stored}
-use Rattle.wire.specs.PartsLaws.{HeaderRead, header-read, CountRead, count-read, entry-part}
+use Rattle.wire.specs.MessagePartsLaws.{HeaderRead, header-read, CountRead, count-read, entry-part}
 use Rattle.wire.specs.RoundTrips.{read-long, read-count, clear-parts}
 use Rattle.wire.proofs.decode.clear_message.Statement.{statement}
 use Rattle.wire.proofs.decode.clear_message.Tie as tie

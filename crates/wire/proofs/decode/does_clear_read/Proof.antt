@@ -4,7 +4,7 @@ use mathlib.Core.Path.{sym, _∙_}
 use native.Mathlib.Omega.{arith}
 use denote.Ref.{now}
 use Rattle.wire.specs.MessageLaws.{reads-clear-many, reads-clear-inexact, reads-clear-exact}
-use Rattle.wire.specs.PartsLaws.{HeaderRead, header-read, CountRead, count-read}
+use Rattle.wire.specs.MessagePartsLaws.{HeaderRead, header-read, CountRead, count-read}
 use Rattle.wire.proofs.decode.does_clear_read.Statement.{statement}
 use Rattle.wire.proofs.decode.does_clear_read.Tie as tie
 

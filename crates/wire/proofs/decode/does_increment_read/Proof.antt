@@ -4,7 +4,7 @@ use mathlib.Core.Path.{sym, _∙_}
 use native.Mathlib.Omega.{arith}
 use denote.Ref.{now}
 use Rattle.wire.specs.MessageLaws.{reads-increment-exact, reads-increment-inexact}
-use Rattle.wire.specs.PartsLaws.{header-read, increment-read}
+use Rattle.wire.specs.MessagePartsLaws.{header-read, increment-read}
 use Rattle.wire.proofs.decode.does_increment_read.Statement.{statement}
 use Rattle.wire.proofs.decode.does_increment_read.Tie as tie
 

@@ -4,7 +4,7 @@ use native.Mathlib.Omega.{arith}
 use denote.Ref.{now}
 use Rattle.wire.specs.Number.{int-at}
 use Rattle.wire.specs.Message.{clear-kind, increment-message}
-use Rattle.wire.specs.PartsLaws.{HeaderRead, header-read, increment-read}
+use Rattle.wire.specs.MessagePartsLaws.{HeaderRead, header-read, increment-read}
 use Rattle.wire.specs.RoundTrips.{read-exact, read-increment}
 use Rattle.wire.proofs.decode.increment_message.Statement.{statement}
 use Rattle.wire.proofs.decode.increment_message.Tie as tie

@@ -3,7 +3,7 @@ use borrow.Author.Needs.{needs}
 use mathlib.Core.Path.{_∙_}
 use denote.Ref.{now}
 use Rattle.wire.specs.MessageLaws.{reads-short, reads-other-version, reads-other-kind}
-use Rattle.wire.specs.PartsLaws.{header-read}
+use Rattle.wire.specs.MessagePartsLaws.{header-read}
 use Rattle.wire.proofs.decode.reads.Statement.{statement}
 use Rattle.wire.proofs.decode.reads.Tie as tie
 

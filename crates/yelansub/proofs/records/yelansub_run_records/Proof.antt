@@ -1,8 +1,8 @@
 -- `yelansub_run_records` meets its contract: a walk of its MIR, by hand, since a `&[Step]` is a reference to structs. The words are lent to `begin_records`; where the sizes are wrong the run returns. Each turn of the loop copies a
 -- record out of the slice, lends the words, the logs, the answers and the places, for a lifetime that is made for the call, and calls `turn_record`. All that the proof knows of the two is that each meets its contract.
---     State, At    the loop's variant and invariant: the number, the words, the logs, the answers and the places, with `Given` and `Running` of them; and the context that a turn starts from
+--     State, At    the loop's variant and invariant: the number, the words, the logs, the answers and the places, with `StepReady` and `Running` of them; and the context that a turn starts from
 --     more, ends   a turn that takes a record, and the turn that leaves the loop, with the rest of the body
--- Assumes nothing.
+--
 use mathlib.Core.Path.{_≡_, refl, sym, _∙_, ap, subst}
 use Prim.Native.Nat.{ℕ, _-_, _*_, _≤_, _<_, _^_, zero-le}
 use native.Mathlib.Omega.{arith}
@@ -56,7 +56,7 @@ use denote.Exit.{yes}
 use Rattle.walks.proofs.Called.{calls-fn, calls-fn-last}
 use Rattle.walks.proofs.Again.{LentAgain, lends-again, comes-back}
 use Rattle.chassis_model.specs.declared.Step.{Step}
-use Rattle.chassis.specs.Turns.{state-of, Given, Turned}
+use Rattle.chassis.specs.Turns.{state-of, StepReady, StepAnswered}
 use Rattle.chassis.specs.Running.{Running, running-begins}
 use Rattle.yelansub.specs.Records.{Began, sizes-for, Gives, declined, finished, begun-answers, begun-given, record-turn}
 use Rattle.chassis_model.proofs.Step as T
@@ -155,7 +155,7 @@ module _ (r k l : ℕ) (steps : List Step) (words₀ logs₀ answers₀ begun₁
     as-many-words : length words ≡ length words₀
     as-many-logs : length logs ≡ length logs₀
     as-many-answers : length answers ≡ length answers₀
-    given : Given (sizes-for r k l) words logs places
+    given : StepReady (sizes-for r k l) words logs places
     running : Running r k l steps (state-of begun₁ logs₀) (drop i steps) (state-of words logs) i answers
 
   abbrev Nearer : State → State → Type 0
@@ -164,7 +164,7 @@ module _ (r k l : ℕ) (steps : List Step) (words₀ logs₀ answers₀ begun₁
   Nearer-wf : WellFounded Nearer
   Nearer-wf = InvImage·wf (λ (t : State). length steps - t .i) (Nat·lt-wfRel .wf)
 
-  abbrev starts : length begun₁ ≡ length words₀ → length answers₀ ≡ length steps → Given (sizes-for r k l) begun₁ logs₀ zeros → State
+  abbrev starts : length begun₁ ≡ length words₀ → length answers₀ ≡ length steps → StepReady (sizes-for r k l) begun₁ logs₀ zeros → State
   starts as-many same given = record {
     i = 0;
     words = begun₁;
@@ -181,7 +181,7 @@ module _ (r k l : ℕ) (steps : List Step) (words₀ logs₀ answers₀ begun₁
 
   -- record i of the state t is taken
   abbrev next : (t : State) (d : Step) (j : ℕ) (ws gs zs ps : List ℕ) → t .i < length steps → length ws ≡ length (t .words) → length gs ≡ length (t .logs) → length zs ≡ length (t .answers)
-      → Turned (sizes-for r k l) (getD steps (t .i) d) (t .i) (t .words) (t .logs) (t .answers) ws gs zs ps j → State
+      → StepAnswered (sizes-for r k l) (getD steps (t .i) d) (t .i) (t .words) (t .logs) (t .answers) ws gs zs ps j → State
   next t d j ws gs zs ps small lw lg lz turned = record {
     i = j;
     words = ws;
@@ -409,7 +409,7 @@ module _ {M : Type 1} (𝓤 : URA M) (H : Heap 𝓤) (A : Atoms 𝓤) (W : Laws 
           use1 W (later (some (λ (δ : GName). ‵ (MutRef (named 0) (ν ∷ []) Places .own (x₄ t s l₉ δ) (vptr l₉ 0 ∷ [])) ⊛ ‵ (flent (ν ∷ []) (Body (stored Places) l₉ 0 δ))))) (lends-ref 𝓤 H A W Places (named 0) (ν ∷ []) (t .places) l₉ 0) $ await ! tt $ pick ! (λ δ₄. split ! $
           -- [the places, lent; what is kept of them; the answers, lent; what is kept; the logs; ..; the words; ..; ν; κ₀; the fractured borrow; _27; …]
           move ! (2 ∷ 0 ∷ []) $ join ! $ move ! (3 ∷ 0 ∷ []) $ join ! $ move ! (6 ∷ 4 ∷ 0 ∷ []) $ use3 W (raw (Turn 𝓤 H A mem run .pre (to-turn t s l₉ ν δ₁ δ₂ δ₃ δ₄))) (goes-turn t s l₉ ν δ₁ δ₂ δ₃ δ₄ g small same) $
-          calls-fn-last ! fm turn.ended (turn.clauses 𝓤 H A mem run) known-turn (to-turn t s l₉ ν δ₁ δ₂ δ₃ δ₄) (λ j z. Turned (sizes-for r k l) s (t .i) (t .words) (t .logs) (t .answers) (z .1 .1 .1 .1 .1 .0) (z .1 .1 .1 .1 .1 .1 .0) (z .1 .1 .1 .1 .1 .1 .1 .0) (z .1 .1 .1 .1 .1 .1 .1 .1 .0) j) (λ j z. id⊢ 𝓤 _)
+          calls-fn-last ! fm turn.ended (turn.clauses 𝓤 H A mem run) known-turn (to-turn t s l₉ ν δ₁ δ₂ δ₃ δ₄) (λ j z. StepAnswered (sizes-for r k l) s (t .i) (t .words) (t .logs) (t .answers) (z .1 .1 .1 .1 .1 .0) (z .1 .1 .1 .1 .1 .1 .0) (z .1 .1 .1 .1 .1 .1 .1 .0) (z .1 .1 .1 .1 .1 .1 .1 .1 .0) j) (λ j z. id⊢ 𝓤 _)
           (and-then ! (load ! (from ! (stop !)) (look ! 57 refl)) (and-then ! (load ! (from ! (stop !)) (look ! 55 refl)) (and-then ! (load ! (from ! (stop !)) (look ! 53 refl)) (and-then ! (load ! (from ! (stop !)) (look ! 21 refl)) (and-then ! (load ! (from ! (stop !)) (look ! 41 refl)) (and-then ! (load ! (from ! (stop !)) (look ! 17 refl)) (and-then ! (load ! (from ! (stop !)) (look ! 13 refl)) (and-then ! (load ! (from ! (stop !)) (look ! 9 refl)) (and-then ! (load ! (from ! (stop !)) (look ! 7 refl)) (no-more !)))))))))) (λ w j z turned is.
           -- [the result; the last lists; the token; what is kept of the places, the answers, the logs and the words; κ₀; the fractured borrow; _27; …]
           move ! (1 ∷ []) $ fsplit ! $ let-go ! $ fsplit ! $ let-go ! $ fsplit ! $ let-go ! $ fsplit ! $ let-go ! $ fsplit ! $ let-go ! $ fsplit ! $ fsplit ! $ move ! (1 ∷ []) $ feqL ! (λ lw. move ! (1 ∷ []) $ fsplit ! $ fsplit ! $ move ! (1 ∷ []) $ feqL ! (λ lg. move ! (1 ∷ []) $ fsplit ! $ fsplit ! $ move ! (1 ∷ []) $ feqL ! (λ lz. move ! (1 ∷ []) $ fsplit ! $

@@ -9,18 +9,18 @@ use lib.Seq.{take-all, drop-at}
 use Rattle.protocol.specs.Cases.{by-place}
 use Rattle.protocol.specs.Ledger.{empty-ledger}
 use Rattle.protocol.specs.Chassis.{fresh-chassis}
-use Rattle.protocol.specs.Theorem.{fresh-ok}
+use Rattle.protocol.specs.Theorem.{fresh-invariant}
 use Rattle.replica_model.specs.Layout.{replica-length, fresh-words}
-use Rattle.replica_model.specs.Store.{fresh-shows}
-use Rattle.chassis_model.specs.Parts.{part}
-use Rattle.chassis_model.specs.PartLaws.{part-room, part-front}
+use Rattle.replica_model.specs.LayoutLaws.{fresh-shows}
+use Rattle.chassis_model.specs.ListParts.{part}
+use Rattle.chassis_model.specs.ListPartsLaws.{part-room, part-front}
 use Rattle.chassis_model.specs.Run.{replica-of, log-of, fresh-replicas}
 use Rattle.chassis_model.specs.LogLaws.{log-bytes}
 use Rattle.chassis_model.specs.Numbered.{numbered, wire-log}
 pub use Rattle.chassis_model.specs.Answers.{fresh-state}
-use Rattle.chassis_model.specs.InStep.{Sizes, Heads, Alike}
+use Rattle.chassis_model.specs.InStep.{Sizes, Heads, CardsShow}
 use Rattle.chassis_model.specs.Matches.{Holds, Matches}
-use Rattle.chassis_model.specs.Moves.{alike-same}
+use Rattle.chassis_model.specs.Moves.{cards-show-same}
 
 -- ---- the parts of the fresh words
 
@@ -60,9 +60,9 @@ fresh-holds : (j : ℕ) (log : List ℕ) → Holds log (wire-log j [])
 unfolding numbered log-bytes
 fresh-holds j log = record { rest = log; bytes = refl }
 
-pub fresh-alike : (r k : ℕ) → Alike r k (fresh-words r k) fresh-chassis
+pub fresh-cards-show : (r k : ℕ) → CardsShow r k (fresh-words r k) fresh-chassis
 unfolding numbered
-fresh-alike r k = record {
+fresh-cards-show r k = record {
   heads = λ i l. fresh-heads r k i;
   shows = λ i l. fresh-shows r k i;
   readable = λ j l n m. absurd (omega arith);
@@ -77,8 +77,8 @@ fresh-matches r k L logs z fits = record {
   logs-fit = fits;
   cards = record {
     sizes = z;
-    alike = alike-same r k (fresh-words r k) (replica-of r k L (fresh-state r k L logs)) fresh-chassis (λ i l. fresh-part r k r i l) (fresh-alike r k);
-    oks = λ q. fresh-ok r q;
+    cards-show = cards-show-same r k (fresh-words r k) (replica-of r k L (fresh-state r k L logs)) fresh-chassis (λ i l. fresh-part r k r i l) (fresh-cards-show r k);
+    invariants = λ q. fresh-invariant r q;
   };
   holds = λ j l. fresh-holds j (log-of r k L (fresh-state r k L logs) j);
 }

@@ -1,4 +1,4 @@
--- LAWS. Replicas kept in words (`Layouts`): taking a message, written over a store's accessors, does to the words what `Chassis` does to the
+-- LAWS. Replicas kept in words (`Store`): taking a message, written over a store's accessors, does to the words what `Chassis` does to the
 -- replica that the words show, and count, clear and read see that replica.
 use Prim.Native.Nat.{ℕ, zero, suc, _+_, _-_, _^_, _<_}
 use mathlib.Core.Path.{_≡_, refl, ap, _∙_}
@@ -9,8 +9,8 @@ use Rattle.protocol.specs.Cases.{by-place}
 use Rattle.protocol.specs.Tables.{put, put-same, put-other, put-at, put-same-row, put-other-row, sum-cong, bits}
 use Rattle.protocol.specs.Entry.{Entry, present, cleared}
 use Rattle.protocol.specs.Chassis.{Message, increment, clearing, ClearEntry, Replica, cleared-row, taken, count-message, present-entries, clear-message, read-value, read-holders}
-unfoldable pub use Rattle.protocol.specs.Layouts.{cleared-words, taken-words, shown}
-pub use Rattle.protocol.specs.Layouts.{Store, Shows, CardsBelow, InLimits}
+unfoldable pub use Rattle.protocol.specs.Store.{cleared-words, taken-words, shown}
+pub use Rattle.protocol.specs.Store.{Store, Shows, CardsBelow, InLimits}
 
 -- within the limits, two tables agree when one place of both is changed alike
 put-alike {ℓ} : {A : Type ℓ} (n s : ℕ) (v w : A) (f g : ℕ → A) → v ≡ w → ((j : ℕ) → j < n → f j ≡ g j) → (j : ℕ) → j < n → put s v f j ≡ put s w g j

@@ -7,17 +7,17 @@ use mathlib.Core.List.{List, [], _∷_}
 use mathlib.Core.Bool.{Bool, true, false, not, cond, _&&_}
 use lib.ListN.{length}
 use lib.Dec.{leb, ltb, eqb}
-use Rattle.protocol.specs.Limits.{MAX, wrong-replica, not-well-formed, no-such-counter, no-more-messages, output-too-short, unreadable, no-such-card, repeated, early, implausible}
+use Rattle.protocol.specs.Limits.{MAX, bad-replica, bad-row, bad-counter, exhausted, short-output, unreadable, bad-card, repeated, early, implausible}
 use Rattle.protocol.specs.Entry.{present}
 use Rattle.protocol.specs.declared.Entry.{Entry}
 use Rattle.protocol.specs.declared.ClearEntry.{ClearEntry}
 use Rattle.protocol.specs.Rows.{WellFormed}
 use Rattle.protocol.specs.Chassis.{Message, increment, clearing, count-message, clear-message, taken, counter-of, units-of}
-use Rattle.protocol.specs.Layouts.{Shows, taken-words}
+use Rattle.protocol.specs.Store.{Shows, taken-words}
 use Rattle.wire.specs.declared.Message as wire
 use Rattle.wire.specs.Message.{message-at, message-bytes, message-length, in-range, reads, over}
 use Rattle.replica_model.specs.Layout.{cards, counters, own-card, replica-length, C-of, N-of, entry-of}
-use Rattle.replica_model.specs.Store.{layout}
+use Rattle.replica_model.specs.LayoutLaws.{layout}
 use Rattle.replica_model.specs.Calls.{sizes-in-range, right, state, count-below, row-well-formed, read-on, SendOutcome, on-wire, TakeOutcome, content, cards-known, plausible}
 
 -- ---- right and well-formed, in plain numbers
@@ -83,16 +83,16 @@ pub record Decided {A : Type 0} (number : A → ℕ) (refusal : ℕ → A) (cs :
   pub accepted : number o ≡ 0 → o ≡ result
 
 abbrev pub open-checks : List ℕ → ℕ → ℕ → ℕ → List Check
-open-checks b r k own = or-else (sizes-in-range r k && ltb own r && eqb (length b) (replica-length r k)) wrong-replica ∷ []
+open-checks b r k own = or-else (sizes-in-range r k && ltb own r && eqb (length b) (replica-length r k)) bad-replica ∷ []
 
 abbrev pub read-checks : List ℕ → ℕ → List Check
-read-checks b q = or-else (right b) wrong-replica ∷ or-else (ltb q (counters b)) no-such-counter ∷ or-else (row-well-formed b q) not-well-formed ∷ []
+read-checks b q = or-else (right b) bad-replica ∷ or-else (ltb q (counters b)) bad-counter ∷ or-else (row-well-formed b q) bad-row ∷ []
 
 -- a message of `size` bytes
 abbrev pub send-checks : List ℕ → ℕ → List ℕ → ℕ → List Check
 send-checks b q out size =
-    or-else (right b) wrong-replica ∷ or-else (ltb q (counters b)) no-such-counter ∷ or-else (row-well-formed b q) not-well-formed
-    ∷ or-else (not (eqb (N-of (cards b) b (own-card b)) MAX)) no-more-messages ∷ or-else (leb size (length out)) output-too-short ∷ []
+    or-else (right b) bad-replica ∷ or-else (ltb q (counters b)) bad-counter ∷ or-else (row-well-formed b q) bad-row
+    ∷ or-else (not (eqb (N-of (cards b) b (own-card b)) MAX)) exhausted ∷ or-else (leb size (length out)) short-output ∷ []
 
 -- how many entries of the row are present
 abbrev pub holders : List ℕ → ℕ → ℕ
@@ -107,8 +107,8 @@ clear-checks b q out = send-checks b q out (28 + 20 * holders b q)
 abbrev pub take-checks : List ℕ → List ℕ → List Check
 take-checks b bytes =
     let m = message-at bytes in
-    or-else (right b) wrong-replica ∷ or-else (reads bytes) unreadable ∷ or-else (ltb (m .counter) (counters b)) no-such-counter
-    ∷ or-else (row-well-formed b (m .counter)) not-well-formed ∷ or-else (cards-known b m) no-such-card
+    or-else (right b) bad-replica ∷ or-else (reads bytes) unreadable ∷ or-else (ltb (m .counter) (counters b)) bad-counter
+    ∷ or-else (row-well-formed b (m .counter)) bad-row ∷ or-else (cards-known b m) bad-card
     ∷ or-else (ltb (N-of (cards b) b (m .sender)) (m .sequence)) repeated ∷ or-else (leb (m .sequence) (N-of (cards b) b (m .sender) + 1)) early
     ∷ or-else (plausible b m) implausible ∷ []
 

@@ -1,10 +1,10 @@
--- LAWS. The numbers of a part that was read, one by one. Assumes nothing.
+-- LAWS. The numbers of a part that was read, one by one.
 use mathlib.Core.Path.{_≡_, ap}
 use Prim.Native.Nat.{ℕ, _+_}
 use mathlib.Core.List.{List}
 use Rattle.wire.specs.Number.{int-at, hyper-at}
 use Rattle.wire.specs.Message.{entry-at}
-use Rattle.wire.specs.Parts.{Header, Increment, EntryRead, header-at, increment-at, entry-read-at}
+use Rattle.wire.specs.MessageParts.{Header, Increment, EntryRead, header-at, increment-at, entry-read-at}
 
 -- of the header at the front
 pub record HeaderRead (s : List ℕ) (h : Header) : Type 0 where

@@ -9,11 +9,11 @@ use lib.ListN.{length, take, replicate}
 use lib.Dec.{eqb, ltb, leb}
 use lib.Seq.{take-append-seam}
 use borrow.Author.Tests.{lt-ltb, le-ltb, le-leb, eq-eqb, ne-eqb}
-use Rattle.protocol.specs.Limits.{no-such-card}
+use Rattle.protocol.specs.Limits.{bad-card}
 use Rattle.protocol.specs.Cases.{by-place, and-yes, and-no-right}
 use Rattle.protocol.specs.declared.ClearEntry.{ClearEntry}
 use Rattle.protocol.specs.Chassis.{Message, increment, clearing, counter-of}
-use Rattle.protocol.specs.Stores.{CardsBelow}
+use Rattle.protocol.specs.StoreLaws.{CardsBelow}
 use Rattle.protocol.specs.Refusals.{Plausible, PlausibleEntries}
 use Rattle.wire.specs.declared.Message as wire
 use Rattle.wire.specs.Message as form
@@ -22,7 +22,7 @@ use Rattle.wire.specs.RoundTrips.{read-as}
 use Rattle.wire.specs.Claims.{written-reads}
 use Rattle.replica_model.specs.Layout.{cards, own-card, C-of, N-of}
 use Rattle.replica_model.specs.Calls.{on-wire, not-taken, all-entries, cards-known, plausible, entry-plausible, increment-implausible, take-on}
-use Rattle.replica_model.specs.Terms.{Right, RowOf, Addressed}
+use Rattle.replica_model.specs.ClaimTerms.{Right, RowOf, Addressed}
 use Rattle.replica_model.specs.RowLaws.{right-from, row-from}
 use Rattle.replica_model.specs.Exact.{refusal-given, take-decided}
 use Rattle.chassis_model.specs.LogLaws.{Readable}
@@ -115,14 +115,14 @@ addressed r k i s n b m h f hs apart sends w good =
 
 -- A card's own message, handed back to it, is refused with 7.
 pub own-refused : (r k i s n : ℕ) (b : List ℕ) (m : Message) → Heads r k i b → Right b → s < r → i ≡ s → Sendable r k m → RowOf b (counter-of m)
-    → Readable (on-wire s n m) → take-on b (message-bytes (on-wire s n m)) ≡ not-taken no-such-card b
+    → Readable (on-wire s n m) → take-on b (message-bytes (on-wire s n m)) ≡ not-taken bad-card b
 unfolding cards-known
 own-refused r k i s n b m h f hs own sends w good =
     let x = on-wire s n m in
     let from = on-wire-sender s n m in
     let counter = on-wire-counter s n m in
     let written = read-as (message-bytes x) x (written-reads x (good .held) (good .fits)) in
-    refusal-given (take-decided b (message-bytes x)) no-such-card (λ e. omega arith)
+    refusal-given (take-decided b (message-bytes x)) bad-card (λ e. omega arith)
     (rw (written .1, from, counter, h .counters-are, h .cards-are, h .own-is)
     (right-from b f, (written .0, (lt-ltb (counter-of m) k (sendable-counter r k m sends), (row-from b (counter-of m) w, rw (lt-ltb s r hs, eq-eqb s i (sym own)))))))
 

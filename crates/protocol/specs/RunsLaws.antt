@@ -2,7 +2,7 @@
 use Prim.Native.Nat.{ℕ}
 use mathlib.Core.Path.{_≡_, refl, ap}
 use mathlib.Core.List.{List, [], _∷_, _++_, map}
-use Rattle.protocol.specs.Ledger.{Ledger, fed, kept}
+use Rattle.protocol.specs.Ledger.{Ledger, after-step, after-steps}
 use Rattle.protocol.specs.Chassis.{Chassis, Offer, accepted, stepped, run, answers}
 use Rattle.protocol.specs.Runs.{step-of}
 
@@ -16,9 +16,9 @@ unfolding answers run
 answers-append r [] os′ st = refl
 answers-append r (o ∷ os) os′ st = ap (λ fs. accepted r o st ∷ fs) (answers-append r os os′ (stepped r o st))
 
-pub kept-append : (r q : ℕ) (os os′ : List Offer) (st : Chassis) (l : Ledger)
-    → kept r q (map step-of (os ++ os′)) (answers r (os ++ os′) st) l
-    ≡ kept r q (map step-of os′) (answers r os′ (run r os st)) (kept r q (map step-of os) (answers r os st) l)
-unfolding run answers kept
-kept-append r q [] os′ st l = refl
-kept-append r q (o ∷ os) os′ st l = kept-append r q os os′ (stepped r o st) (fed r q (o .step) (accepted r o st) l)
+pub after-steps-append : (r q : ℕ) (os os′ : List Offer) (st : Chassis) (l : Ledger)
+    → after-steps r q (map step-of (os ++ os′)) (answers r (os ++ os′) st) l
+    ≡ after-steps r q (map step-of os′) (answers r os′ (run r os st)) (after-steps r q (map step-of os) (answers r os st) l)
+unfolding run answers after-steps
+after-steps-append r q [] os′ st l = refl
+after-steps-append r q (o ∷ os) os′ st l = after-steps-append r q os os′ (stepped r o st) (after-step r q (o .step) (accepted r o st) l)

@@ -11,8 +11,8 @@ use Rattle.protocol.specs.Cases.{by-place, by-le}
 use Rattle.protocol.specs.Tables.{put, put-same, put-other, put-same-row, put-other-row}
 use Rattle.protocol.specs.declared.Entry.{Entry}
 use Rattle.protocol.specs.Chassis.{fresh-replica}
-use Rattle.protocol.specs.Stores.{Store, Shows}
-use Rattle.replica_model.specs.Layout.{head, replica-length, at-C, at-N, cell, at-entry, C-of, N-of, entry-of, set-C, set-N, three, set-entry, fresh-words}
+use Rattle.protocol.specs.StoreLaws.{Store, Shows}
+use Rattle.replica_model.specs.Layout.{head, replica-length, at-C, at-N, cell, at-entry, C-of, N-of, entry-of, set-C, set-N, set-three, set-entry, fresh-words}
 
 -- ---- which entry is where: the one place with products
 
@@ -31,25 +31,25 @@ cell-apart r q j q′ j′ hj hj′ d e =
 
 -- ---- three words in a row
 
-pub three-length : (ws : List ℕ) (a x y z : ℕ) → length (three ws a x y z) ≡ length ws
-three-length ws a x y z = simp length-set
+pub set-three-length : (ws : List ℕ) (a x y z : ℕ) → length (set-three ws a x y z) ≡ length ws
+set-three-length ws a x y z = simp length-set
 
-three-0 : (ws : List ℕ) (a x y z : ℕ) → a + 2 < length ws → getD (three ws a x y z) a 0 ≡ x
-three-0 ws a x y z h =
+set-three-0 : (ws : List ℕ) (a x y z : ℕ) → a + 2 < length ws → getD (set-three ws a x y z) a 0 ≡ x
+set-three-0 ws a x y z h =
     getD-set-other (set (set ws a x) (a + 1) y) (a + 2) a z 0 (λ e. omega arith)
     ∙ getD-set-other (set ws a x) (a + 1) a y 0 (λ e. omega arith)
     ∙ getD-set-same ws a x 0 (omega arith)
 
-three-1 : (ws : List ℕ) (a x y z : ℕ) → a + 2 < length ws → getD (three ws a x y z) (a + 1) 0 ≡ y
-three-1 ws a x y z h =
+set-three-1 : (ws : List ℕ) (a x y z : ℕ) → a + 2 < length ws → getD (set-three ws a x y z) (a + 1) 0 ≡ y
+set-three-1 ws a x y z h =
     getD-set-other (set (set ws a x) (a + 1) y) (a + 2) (a + 1) z 0 (λ e. omega arith)
     ∙ getD-set-same (set ws a x) (a + 1) y 0 (simp length-set (omega arith))
 
-three-2 : (ws : List ℕ) (a x y z : ℕ) → a + 2 < length ws → getD (three ws a x y z) (a + 2) 0 ≡ z
-three-2 ws a x y z h = getD-set-same (set (set ws a x) (a + 1) y) (a + 2) z 0 (simp length-set (omega arith))
+set-three-2 : (ws : List ℕ) (a x y z : ℕ) → a + 2 < length ws → getD (set-three ws a x y z) (a + 2) 0 ≡ z
+set-three-2 ws a x y z h = getD-set-same (set (set ws a x) (a + 1) y) (a + 2) z 0 (simp length-set (omega arith))
 
-three-far : (ws : List ℕ) (a x y z i : ℕ) → i ≢ a → i ≢ a + 1 → i ≢ a + 2 → getD (three ws a x y z) i 0 ≡ getD ws i 0
-three-far ws a x y z i d d₁ d₂ =
+set-three-far : (ws : List ℕ) (a x y z i : ℕ) → i ≢ a → i ≢ a + 1 → i ≢ a + 2 → getD (set-three ws a x y z) i 0 ≡ getD ws i 0
+set-three-far ws a x y z i d d₁ d₂ =
     getD-set-other (set (set ws a x) (a + 1) y) (a + 2) i z 0 d₂
     ∙ getD-set-other (set ws a x) (a + 1) i y 0 d₁
     ∙ getD-set-other ws a i x 0 d
@@ -76,16 +76,16 @@ module _ (r k : ℕ) where
       far d =
           let c = cell-apart r q j q′ j′ hj hj′ d in
           same-entry
-          (three-far ws (at-entry r q j) (e .p) (e .n) (e .c) (at-entry r q′ j′) (omega arith) (omega arith) (omega arith))
-          (three-far ws (at-entry r q j) (e .p) (e .n) (e .c) (at-entry r q′ j′ + 1) (omega arith) (omega arith) (omega arith))
-          (three-far ws (at-entry r q j) (e .p) (e .n) (e .c) (at-entry r q′ j′ + 2) (omega arith) (omega arith) (omega arith))
+          (set-three-far ws (at-entry r q j) (e .p) (e .n) (e .c) (at-entry r q′ j′) (omega arith) (omega arith) (omega arith))
+          (set-three-far ws (at-entry r q j) (e .p) (e .n) (e .c) (at-entry r q′ j′ + 1) (omega arith) (omega arith) (omega arith))
+          (set-three-far ws (at-entry r q j) (e .p) (e .n) (e .c) (at-entry r q′ j′ + 2) (omega arith) (omega arith) (omega arith))
 
       here : entry-of r (set-entry r q j e ws) q j ≡ e
-      here = same-entry (three-0 ws (at-entry r q j) (e .p) (e .n) (e .c) room) (three-1 ws (at-entry r q j) (e .p) (e .n) (e .c) room) (three-2 ws (at-entry r q j) (e .p) (e .n) (e .c) room)
+      here = same-entry (set-three-0 ws (at-entry r q j) (e .p) (e .n) (e .c) room) (set-three-1 ws (at-entry r q j) (e .p) (e .n) (e .c) room) (set-three-2 ws (at-entry r q j) (e .p) (e .n) (e .c) room)
 
   -- the words before the entries
   pub C-entry : (q j : ℕ) (e : Entry) (ws : List ℕ) (i : ℕ) → i < head + 2 * r → getD (set-entry r q j e ws) i 0 ≡ getD ws i 0
-  C-entry q j e ws i l = three-far ws (at-entry r q j) (e .p) (e .n) (e .c) i (λ d. omega arith) (λ d. omega arith) (λ d. omega arith)
+  C-entry q j e ws i l = set-three-far ws (at-entry r q j) (e .p) (e .n) (e .c) i (λ d. omega arith) (λ d. omega arith) (λ d. omega arith)
 
   pub entry-word : (i v : ℕ) (ws : List ℕ) → i < head + 2 * r → (q j : ℕ) → entry-of r (set ws i v) q j ≡ entry-of r ws q j
   entry-word i v ws l q j =
@@ -109,7 +109,7 @@ module _ (r k : ℕ) where
     set-entry = set-entry r;
     set-C = set-C;
     set-N = set-N r;
-    fits-entry = λ q j e ws h. three-length ws (at-entry r q j) (e .p) (e .n) (e .c) ∙ h;
+    fits-entry = λ q j e ws h. set-three-length ws (at-entry r q j) (e .p) (e .n) (e .c) ∙ h;
     fits-C = λ j v ws h. length-set ws (at-C j) v ∙ h;
     fits-N = λ j v ws h. length-set ws (at-N r j) v ∙ h;
     entry-entry = entry-entry;

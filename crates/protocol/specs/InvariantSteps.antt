@@ -25,7 +25,7 @@ items q s (t ∷ h) k = item q s t k ∷ items q s h (after t k)
 abbrev pub waiting : ℕ → ℕ → List Note → ℕ → List Item
 waiting q s h n = items q s (drop n h) (mark-at n h)
 
-pub record Ok (r q : ℕ) (st : Chassis) (l : Ledger) : Type 0 where
+pub record Invariant (r q : ℕ) (st : Chassis) (l : Ledger) : Type 0 where
   -- each card's messages, as notes; how far each card has each origin's names cancelled
   pub notes : ℕ → List Note
   pub row : ℕ → ℕ → Mark
@@ -81,7 +81,7 @@ taken-N s (clearing q ts) b j = refl
 abbrev more-notes : (ℕ → List Note) → ℕ → Note → ℕ → List Note
 more-notes notes i t = put i (notes i ++ t ∷ []) notes
 
-module _ (r q : ℕ) (st : Chassis) (l : Ledger) (k : Ok r q st l) (i : ℕ) (t : Note)
+module _ (r q : ℕ) (st : Chassis) (l : Ledger) (k : Invariant r q st l) (i : ℕ) (t : Note)
     (o : NoteOk q i t (seen (k .notes) (st .replica i) i)) (on : NoteTargetsOn (k .notes) t) where
   -- the notes, with the new one
   notes⁺ : more-notes (k .notes) i t i ≡ k .notes i ++ t ∷ []
@@ -154,7 +154,7 @@ module _ (r q : ℕ) (st : Chassis) (l : Ledger) (k : Ok r q st l) (i : ℕ) (t 
       (λ f. simp (put-other-row, put-at, taken-N, put-other) (rw (← f) (k .queues s j apart)))
       (λ f. simp (put-other-row, put-other) (k .queues s j apart)))
 
-  issued-here : i < r → Ok r q (issued i (wire q t) st) (made i (item q i t (seen (k .notes) (st .replica i) i)) l)
+  issued-here : i < r → Invariant r q (issued i (wire q t) st) (made i (item q i t (seen (k .notes) (st .replica i) i)) l)
   unfolding issued made applied sent
   issued-here below = record {
     notes = more-notes (k .notes) i t;
@@ -169,15 +169,15 @@ module _ (r q : ℕ) (st : Chassis) (l : Ledger) (k : Ok r q st l) (i : ℕ) (t 
   }
 
 -- as the steps use it: the message and the item are the note's
-pub issued-ok : (r q : ℕ) (st : Chassis) (l : Ledger) (k : Ok r q st l) (i : ℕ) (m : Message) (it : Item) (t : Note) → i < r
+pub issued-invariant : (r q : ℕ) (st : Chassis) (l : Ledger) (k : Invariant r q st l) (i : ℕ) (m : Message) (it : Item) (t : Note) → i < r
     → m ≡ wire q t → it ≡ item q i t (seen (k .notes) (st .replica i) i)
     → NoteOk q i t (seen (k .notes) (st .replica i) i) → NoteTargetsOn (k .notes) t
-    → Ok r q (issued i m st) (made i it l)
-issued-ok r q st l k i m it t below e f o on = rw (e, f) (issued-here r q st l k i t o on below)
+    → Invariant r q (issued i m st) (made i it l)
+issued-invariant r q st l k i m it t below e f o on = rw (e, f) (issued-here r q st l k i t o on below)
 
 -- ---- a card takes the next message of another card
 
-module _ (r q : ℕ) (st : Chassis) (l : Ledger) (k : Ok r q st l) (i s : ℕ) (apart : i ≡ s → ⊥) (waits : st .replica i .N s < length (k .notes s)) where
+module _ (r q : ℕ) (st : Chassis) (l : Ledger) (k : Invariant r q st l) (i s : ℕ) (apart : i ≡ s → ⊥) (waits : st .replica i .N s < length (k .notes s)) where
   -- the note whose turn it is
   turn : Note
   turn = getD (k .notes s) (st .replica i .N s) no-note
@@ -238,9 +238,9 @@ module _ (r q : ℕ) (st : Chassis) (l : Ledger) (k : Ok r q st l) (i s : ℕ) (
       (λ f. rw f (simp (put-other-row, N-here, put-other) (k .queues o i (λ c. far (f ∙ c)))))
       (λ f. simp (put-other-row, replica-there) (k .queues o j far)))
 
-  pub delivered-ok : Ok r q (delivered i s st) (handed i s l)
+  pub delivered-invariant : Invariant r q (delivered i s st) (handed i s l)
   unfolding delivered handed applied replica′
-  delivered-ok = record {
+  delivered-invariant = record {
     notes = k .notes;
     row = put i (row-after s turn (seen (k .notes) (st .replica i) s) (k .row i)) (k .row);
     logs = k .logs;

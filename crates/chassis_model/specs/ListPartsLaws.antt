@@ -1,4 +1,4 @@
--- LAWS. A list cut into parts of n elements: a part that is put there is found there, and the other parts stay. Assumes nothing.
+-- LAWS. A list cut into parts of n elements: a part that is put there is found there, and the other parts stay.
 use Prim.Native.Nat.{ℕ, _+_, _-_, _*_, _≤_, _<_}
 use mathlib.Core.Path.{_≡_, sym, ap, _∙_}
 use mathlib.Core.List.{List, _++_}
@@ -8,7 +8,7 @@ use lib.ListN.{length, take, drop, length-append, length-drop, take-append-drop}
 use lib.Seq.{length-take-le, take-at, drop-at, take-append-le, drop-append-le, drop-append-add, drop-drop}
 use Rattle.protocol.specs.Cases.{by-place, by-le}
 use Rattle.protocol.specs.Tables.{put, put-at, put-other}
-use Rattle.chassis_model.specs.Parts.{part, put-part}
+use Rattle.chassis_model.specs.ListParts.{part, put-part}
 
 -- part i ends before the next begins, and so inside a list of r parts
 pub part-room : (i r n : ℕ) → i < r → i * n + n ≤ r * n

@@ -14,7 +14,7 @@ use Rattle.protocol.specs.declared.ClearEntry.{ClearEntry}
 use Rattle.protocol.specs.Entry.{present, larger, removeIf, raised, finished, incremented, lowered, settled, cleared}
 use Rattle.protocol.specs.EntryLaws.{WellFormed}
 use Rattle.protocol.specs.Chassis.{Message, increment, clearing, Replica, cleared-row, taken}
-use Rattle.replica_model.specs.Terms.{WellFormedRow}
+use Rattle.replica_model.specs.ClaimTerms.{WellFormedRow}
 
 -- ---- a message that fits: its sender is s, the receiver's own card is `own`, its numbers of increments are C
 

@@ -8,10 +8,10 @@ use Rattle.protocol.specs.Limits.{repeated, early}
 use Rattle.wire.specs.Message.{message-at}
 use Rattle.replica_model.specs.Layout.{cards, N-of}
 use Rattle.replica_model.specs.Calls.{not-taken, cards-known, take-on}
-use Rattle.replica_model.specs.Terms.{Addressed}
+use Rattle.replica_model.specs.ClaimTerms.{Addressed}
 use Rattle.replica_model.specs.Exact.{refusal-given, take-decided}
 use Rattle.replica_model.specs.Receivers.{taking-facts}
-use Rattle.replica_model.specs.Accepted.{take-move, move-keeps, move-moves}
+use Rattle.replica_model.specs.AcceptedCalls.{take-move, move-keeps, move-moves}
 
 pub old-refused : (b bytes : List ℕ) → Addressed b bytes → message-at bytes .sequence ≤ N-of (cards b) b (message-at bytes .sender) → take-on b bytes ≡ not-taken repeated b
 old-refused b bytes a l =

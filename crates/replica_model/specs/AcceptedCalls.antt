@@ -13,15 +13,15 @@ use Rattle.protocol.specs.declared.Entry.{Entry}
 use Rattle.protocol.specs.Entry.{present}
 use Rattle.protocol.specs.declared.ClearEntry.{ClearEntry}
 use Rattle.protocol.specs.Chassis.{Message, increment, clearing, count-message, clear-message, read-value, read-holders, counter-of}
-use Rattle.protocol.specs.Stores.{CardsBelow, InLimits, shown, taken-words}
+use Rattle.protocol.specs.StoreLaws.{CardsBelow, InLimits, shown, taken-words}
 use Rattle.wire.specs.Message.{message-at}
 use Rattle.replica_model.specs.Layout.{cards, counters, own-card, C-of, N-of, entry-of}
-use Rattle.replica_model.specs.Store.{layout}
+use Rattle.replica_model.specs.LayoutLaws.{layout}
 use Rattle.replica_model.specs.Calls.{right, row-well-formed, reading, read-on, content, count-on, clear-on, take-on}
-use Rattle.replica_model.specs.Terms.{Right, Gives, send-checks, holders, count-of, clear-of, Performed, OnlyMoves, Keeps, Isolates}
+use Rattle.replica_model.specs.ClaimTerms.{Right, Gives, send-checks, holders, count-of, clear-of, Performed, OnlyMoves, Keeps, Isolates}
 use Rattle.replica_model.specs.RowLaws.{right-facts, right-from, row-facts, row-from, count-cong}
 use Rattle.replica_model.specs.Exact.{count-decided, clear-decided, take-decided}
-use Rattle.replica_model.specs.Kept.{FittingEntries, Fitting}
+use Rattle.replica_model.specs.WellFormedKept.{FittingEntries, Fitting}
 use Rattle.replica_model.specs.Performed.{performed, only-moves, right-kept, row-kept}
 use Rattle.replica_model.specs.Senders.{Sending, count-fits, clear-fits}
 use Rattle.replica_model.specs.Receivers.{taking-facts, content-counter}
@@ -103,7 +103,7 @@ reading-alike b after q c e =
       number = 0;
       value = sum-cong (cards b) _ _ (λ j l. ap (λ (x : Entry). x .p - x .n) (e j l)) i;
       holders = sum-cong (cards b) _ _ (λ j l. ap (λ (x : Entry). cond (present x) (2 ^ j) 0) (e j l)) i;
-      count = count-cong (cards b) _ _ (λ j l. ap (λ (x : Entry). present x) (e j l)) i;
+      «holder_count» = count-cong (cards b) _ _ (λ j l. ap (λ (x : Entry). present x) (e j l)) i;
     })
 
 module _ (b : List ℕ) (q s : ℕ) (m : Message) (after : List ℕ) (k : Move b q s m after) where

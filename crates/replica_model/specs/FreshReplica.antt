@@ -14,9 +14,9 @@ use Rattle.wire.specs.Message.{increment-message, message-bytes}
 use Rattle.wire.specs.Bounds.{increment-in-range-from, increment-entries}
 use Rattle.wire.specs.RoundTrips.{message-read, read-as}
 use Rattle.replica_model.specs.Layout.{replica-length, C-of, N-of, fresh-words}
-use Rattle.replica_model.specs.Store.{fresh-shows}
+use Rattle.replica_model.specs.LayoutLaws.{fresh-shows}
 use Rattle.replica_model.specs.Calls.{sizes-in-range, right, row-well-formed, open-on, read-on, count-on, clear-on, all-entries, cards-known, increment-implausible, plausible, take-on}
-use Rattle.replica_model.specs.Terms.{OpenSizes, Right, RowOf, Gives, send-checks, holders}
+use Rattle.replica_model.specs.ClaimTerms.{OpenSizes, Right, RowOf, Gives, send-checks, holders}
 use Rattle.replica_model.specs.RowLaws.{right-from, row-from, row-alike, count-none, tests}
 use Rattle.replica_model.specs.Exact.{open-decided, read-decided, count-decided, clear-decided, take-decided}
 

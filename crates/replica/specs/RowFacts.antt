@@ -13,7 +13,7 @@ use Rattle.protocol.specs.Limits.{MAX}
 use Rattle.protocol.specs.Cases.{by-test}
 use Rattle.protocol.specs.declared.Entry.{Entry}
 use Rattle.replica_model.specs.Layout.{cards, counters, own-card, head, at-entry, C-of, N-of, entry-of, set-entry}
-use Rattle.replica_model.specs.Store.{three-length, C-entry}
+use Rattle.replica_model.specs.LayoutLaws.{set-three-length, C-entry}
 use Rattle.protocol.specs.Rows.{WellFormed}
 use Rattle.replica_model.specs.RowLaws.{right-facts, below-facts, below-from, row-facts}
 use Rattle.replica_model.specs.Calls.{right, all-below, entry-well-formed, card-well-formed, row-well-formed}
@@ -57,7 +57,7 @@ row-kept b b′ r q l e o h = record {
 
 pub row-set-entry : (b : List ℕ) (r q j : ℕ) (e : Entry) → Row b r q → Row (set-entry r q j e b) r q
 row-set-entry b r q j e h =
-    row-kept b (set-entry r q j e b) r q (three-length b (at-entry r q j) (e .p) (e .n) (e .c)) (C-entry r q q j e b 0 (omega arith)) (C-entry r q q j e b 2 (omega arith)) h
+    row-kept b (set-entry r q j e b) r q (set-three-length b (at-entry r q j) (e .p) (e .n) (e .c)) (C-entry r q q j e b 0 (omega arith)) (C-entry r q q j e b 2 (omega arith)) h
 
 -- ---- a well-formed row, from its tests
 
