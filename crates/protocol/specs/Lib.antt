@@ -3,6 +3,7 @@
 
 -- DEFINITIONS
 pub mod Limits
+pub mod Checks
 pub mod Functions
 pub mod Entry
 pub mod Names
@@ -41,6 +42,7 @@ pub mod ClearClaims
 pub mod ClearedExamples
 -- LAWS. Case splits, tables, lists.
 pub mod Cases
+pub mod ChecksLaws
 pub mod Tables
 pub mod Lists
 -- Algorithm 1 in its two forms.
