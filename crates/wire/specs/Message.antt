@@ -22,6 +22,25 @@ increment-kind = 1
 abbrev pub clear-kind : ℕ
 clear-kind = 2
 
+-- ---- lengths in bytes
+
+abbrev pub header-length : ℕ
+header-length = 24
+
+-- "Increment: .. 36 bytes."
+abbrev pub increment-length : ℕ
+increment-length = 36
+
+abbrev pub entry-length : ℕ
+entry-length = 20
+
+-- "Clear: .. 28 + 20e bytes.": with e entries, behind the header and the length word
+abbrev pub clear-length : ℕ → ℕ
+clear-length e = 28 + entry-length * e
+
+abbrev pub longest-message : ℕ
+longest-message = clear-length most-cards
+
 -- ---- the bytes: "Big-endian, fields in this order"
 
 -- "version; kind; sender (unsigned int); sequence (unsigned hyper); counter (unsigned int)": 24 bytes
