@@ -16,6 +16,7 @@ if [ ! -x "$listing" ]; then
     echo "no chassis_listing in $root/target/bin: run 'rt check chassis_listing' first" >&2
     exit 1
 fi
+"$root/tests/gate.sh"
 "$root/tests/symbols.sh"
 "$root/tests/driver.sh"
 "$root/tests/guards.sh"
