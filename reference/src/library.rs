@@ -4,7 +4,7 @@
 //! Answers keep the shape of the C structs, number first.
 
 use crate::chassis::{Buffers, Step};
-use crate::limits::MAX_CARDS;
+use crate::limits::MOST_CARDS;
 use crate::message::Entry;
 
 #[repr(C)]
@@ -50,7 +50,7 @@ pub struct Message {
     pub p: u64,
     pub start: u32,
     pub len: usize,
-    pub entries: [Entry; MAX_CARDS],
+    pub entries: [Entry; MOST_CARDS],
 }
 
 #[repr(C)]
