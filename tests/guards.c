@@ -12,25 +12,6 @@
 
 #include "yelansub.h"
 
-/* The library's layout of a message, as the compiler of this header sees it. */
-#define LAID_OUT(type, field, at) _Static_assert(offsetof(struct type, field) == (at), #type "." #field)
-LAID_OUT(yelansub_clear_entry, p, 8);
-LAID_OUT(yelansub_clear_entry, c, 16);
-LAID_OUT(yelansub_message, kind, 4);
-LAID_OUT(yelansub_message, sender, 8);
-LAID_OUT(yelansub_message, sequence, 16);
-LAID_OUT(yelansub_message, counter, 24);
-LAID_OUT(yelansub_message, p, 32);
-LAID_OUT(yelansub_message, start, 40);
-LAID_OUT(yelansub_message, len, 48);
-LAID_OUT(yelansub_message, entries, 56);
-LAID_OUT(yelansub_message_reading, message, 8);
-LAID_OUT(yelansub_written, length, 8);
-_Static_assert(sizeof(struct yelansub_clear_entry) == 24, "a clear's entry");
-_Static_assert(sizeof(struct yelansub_message) == 440, "a message");
-_Static_assert(sizeof(struct yelansub_message_reading) == 448, "a message read");
-_Static_assert(sizeof(struct yelansub_written) == 16, "a message written");
-
 enum { PAGE = 4096, MARK = 0xa5 };
 
 static const char *doing = "start";

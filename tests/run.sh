@@ -17,6 +17,7 @@ if [ ! -x "$listing" ]; then
     exit 1
 fi
 "$root/tests/gate.sh"
+"$root/tests/layout.sh"
 "$root/tests/symbols.sh"
 "$root/tests/driver.sh"
 "$root/tests/guards.sh"
