@@ -73,6 +73,13 @@ pub fn random_runs(seed: u64, cases: u64, longest: u64) -> Tally {
     tally
 }
 
+/// Panics unless runs and steps gave all of their numbers, and nothing else.
+pub fn require_all(tally: &Tally) {
+    tally.require("run", RUN);
+    tally.require("records", RUN);
+    tally.require("step", STEP);
+}
+
 fn compare(lent: &Lent, place: Place, tally: &mut Tally) {
     let (mut ours, mut theirs) = (lent.clone(), lent.clone());
     let (our_number, their_number) = (ours.run(reference), theirs.run(library::run));
@@ -307,7 +314,7 @@ pub fn exhaustive(cards: usize, counters: usize, log_bytes: usize, depth: usize)
     search.lists
 }
 
-fn alphabet(cards: usize, counters: usize) -> Vec<Step> {
+pub fn alphabet(cards: usize, counters: usize) -> Vec<Step> {
     let mut steps = Vec::new();
     for card in 0..cards as u32 {
         for counter in 0..counters as u32 {
