@@ -83,13 +83,14 @@ macro_rules! laid_out {
     };
 }
 
-// The structs of include/yelansub.h on x86-64, System V: tests/layout.c holds C to the same numbers.
+// The structs of include/yelansub.h on x86-64, System V; tests/layout.c holds C to these numbers.
 laid_out!(Reading, 32, 8, { number: 0, value: 8, holders: 16, holder_count: 24 });
 laid_out!(Sent, 24, 8, { number: 0, sequence: 8, length: 16 });
 laid_out!(Taken, 16, 8, { number: 0, sequence: 8 });
 laid_out!(Entry, 24, 8, { card: 0, p: 8, c: 16 });
 laid_out!(Message, 56 + 24 * MOST_CARDS, 8, {
-    version: 0, kind: 4, sender: 8, sequence: 16, counter: 24, p: 32, start: 40, len: 48, entries: 56
+    version: 0, kind: 4, sender: 8, sequence: 16, counter: 24, p: 32, start: 40, len: 48,
+    entries: 56
 });
 laid_out!(MessageReading, 64 + 24 * MOST_CARDS, 8, { number: 0, message: 8 });
 laid_out!(Written, 16, 8, { number: 0, length: 8 });

@@ -37,6 +37,7 @@ fn printed(program: &str, input: &[u8]) -> Vec<u8> {
     // A program that has refused may close its input early.
     let _ = child.stdin.take().expect("piped").write_all(input);
     let output = child.wait_with_output().expect("the program ends");
+    assert!(output.status.success(), "{}, input {input:?}", output.status);
     output.stdout
 }
 

@@ -39,6 +39,15 @@ pub fn random_calls(seed: u64, cases: u64) -> Tally {
     tally
 }
 
+/// Panics unless every call gave all of its numbers, and nothing else.
+pub fn require_all(tally: &Tally) {
+    tally.require("open", OPEN);
+    tally.require("read", READ);
+    tally.require("count", SEND);
+    tally.require("clear", SEND);
+    tally.require("take", TAKE);
+}
+
 /// Count or clear of the reference.
 pub(super) type Send = fn(&mut [u64], u64, &mut [u8]) -> Result<replica::Sent, u64>;
 

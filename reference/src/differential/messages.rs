@@ -114,30 +114,53 @@ pub fn random_messages(seed: u64, cases: u64) -> Tally {
     tally
 }
 
-/// An increment and every length of clear, each of its fields at every edge; gives what each
-/// field was answered.
-pub fn every_field_at_every_edge() -> Tally {
-    let mut tally = Tally::default();
-    let content = [0xee; LONGEST_MESSAGE];
+/// Panics unless both calls gave all of their numbers, and nothing else.
+pub fn require_all(tally: &Tally) {
+    tally.require("read_message", READ);
+    tally.require("write_message", WRITE);
+}
+
+/// An increment and every length of clear, each of its fields at every edge; gives what each field
+/// was answered when written, and when read.
+pub fn every_field_at_every_edge() -> [Tally; 2] {
+    let [mut written, mut read] = [Tally::default(), Tally::default()];
+    let mut compare = |name, form, place: Place| {
+        written.note(name, compare_write(form, &[0xee; LONGEST_MESSAGE], place));
+        read.note(name, compare_read(&bytes_of(&form), place));
+    };
     for base in bases() {
         for number in generate::EDGES {
             for (name, set) in FIELDS {
                 let mut form = base;
                 set(&mut form, number);
-                let place = || format!("{name} {number} in {base:?}");
-                tally.note(name, compare_write(form, &content, &place));
+                compare(name, form, &|| format!("{name} {number} in {base:?}"));
             }
             for at in 0..MOST_CARDS {
                 for (name, set) in ENTRY_FIELDS {
                     let mut form = base;
                     set(&mut form.entries[at], number);
-                    let place = || format!("{name} {number} at {at} in {base:?}");
-                    tally.note(name, compare_write(form, &content, &place));
+                    compare(name, form, &|| format!("{name} {number} at {at} in {base:?}"));
                 }
             }
         }
     }
-    tally
+    [written, read]
+}
+
+/// The bytes of a struct's fields, in range or not, with at most one entry too many.
+fn bytes_of(form: &library::Message) -> Vec<u8> {
+    let entries = form.entries.iter().cycle().take(form.len.min(MOST_CARDS + 1));
+    let draft = generate::Draft {
+        version: form.version,
+        kind: form.kind,
+        sender: form.sender,
+        sequence: form.sequence,
+        counter: form.counter,
+        p: form.p,
+        start: form.start,
+        entries: entries.map(|entry| (entry.card, entry.p, entry.c)).collect(),
+    };
+    draft.bytes()
 }
 
 fn bases() -> Vec<library::Message> {
@@ -213,7 +236,7 @@ fn damage_form(random: &mut Random, form: &mut library::Message) {
     }
 }
 
-/// Output for a message of `needed` bytes: too short by one, exact, longer by one, or of any length.
+/// Output for a message of `needed` bytes: short by one, exact, longer by one, or of any length.
 fn room(random: &mut Random, needed: usize) -> Vec<u8> {
     let any = random.below(LONGEST_MESSAGE as u64 + 60) as usize;
     let len = random.pick(&[needed, needed, needed - 1, needed + 1, 0, any, any]);
