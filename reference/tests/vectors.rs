@@ -193,7 +193,7 @@ fn every_flipped_bit_and_every_other_length_of_the_vectors_agrees() {
             }
         };
         let mut longer = bytes.clone();
-        longer.extend([0; 24]);
+        longer.extend([0; clear_bytes(1)]);
         for len in 0..longer.len() {
             agree(&longer[..len]);
         }

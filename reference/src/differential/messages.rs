@@ -169,7 +169,8 @@ fn bases() -> Vec<library::Message> {
     for len in 0..=MOST_CARDS {
         let mut clear = library::Message { kind: MESSAGE_CLEAR, len, ..header };
         for (card, entry) in clear.entries[..len].iter_mut().enumerate() {
-            *entry = Entry { card: card as u32, p: 2, c: 17 };
+            // p takes numbers on both sides of c.
+            *entry = Entry { card: card as u32, p: 2, c: MOST_CARDS as u64 + 1 };
         }
         list.push(clear);
     }
