@@ -511,6 +511,22 @@ fn logs_that_are_just_long_enough() {
 }
 
 #[test]
+fn logs_whose_product_wraps() {
+    // Two logs of 2^63 bytes are 2^64, and none was lent.
+    let (cards, counters, log_bytes) = (2, 1, 1 << 63);
+    let len = 2 * replica_words(2, 1);
+    let refused = |call: &dyn Fn(Buffers) -> u64| {
+        let mut words = vec![9; len];
+        let lent = Buffers { words: &mut words, logs: &mut [], answers: &mut [] };
+        assert_eq!(call(lent), BAD_SIZES);
+        assert_eq!(words, vec![9; len]);
+    };
+    refused(&|lent| library::run(cards, counters, log_bytes, &[], lent));
+    refused(&|lent| library::run_records(cards, counters, log_bytes, &[], lent));
+    refused(&|lent| number(chassis::run(cards, counters, log_bytes, &[], lent)));
+}
+
+#[test]
 fn messages_of_a_log() {
     let increment = next_of_card_0().bytes();
     let full: Vec<_> = (0..MOST_CARDS as u32).map(|card| (card, 1, 1)).collect();

@@ -16,7 +16,7 @@ struct Vector {
 
 fn vectors() -> Vec<Vector> {
     let list: Vec<Vector> = VECTORS.lines().map(vector).collect();
-    assert!(list.len() > 200, "the file of vectors is short");
+    assert!(list.len() > 150, "the file of vectors is short");
     list
 }
 
