@@ -69,6 +69,8 @@ ci='echo "11 passed, 1 failed"; exit 1'; fails "rt ci fails"
 ci="echo '$pass'; exit 1"; fails "rt ci fails after all" closing-shown
 ci='kill -9 $$'; fails "rt ci is killed"
 ci="echo '$pass'; kill -9 \$\$"; fails "rt ci is killed at its end" closing-shown
+ci='printf "half a line"; kill -9 $$'; fails "rt ci is killed in a line"
+grep -q 'half a line' "$work/printed"
 ci=:; fails "rt ci has no closing line"
 ci='echo "11 passed, 1 failed"'; fails "rt ci counts a failure"
 ci='echo "0 passed, 0 failed"'; fails "rt ci proves nothing"
