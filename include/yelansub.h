@@ -52,7 +52,7 @@
 extern "C" {
 #endif
 
-/* Limits: cards 0 to r - 1, counters 0 to k - 1. */
+/* Limits: cards 0 to r - 1, counters 0 to k - 1, with r and k at least 1. */
 #define YELANSUB_MOST_CARDS 16
 #define YELANSUB_MOST_COUNTERS 64
 /* The largest sequence, and the most increments of one card: 2^48 - 1. */
@@ -65,7 +65,7 @@ extern "C" {
 /* Bytes of a message: an increment, a clear of e entries, and the longest. */
 #define YELANSUB_INCREMENT_BYTES 36
 #define YELANSUB_CLEAR_BYTES(entries) (28 + 20 * (size_t)(entries))
-#define YELANSUB_LONGEST_MESSAGE 348
+#define YELANSUB_LONGEST_MESSAGE YELANSUB_CLEAR_BYTES(YELANSUB_MOST_CARDS)
 
 /* The version of a message, and its kinds. */
 #define YELANSUB_MESSAGE_VERSION 1
@@ -101,7 +101,8 @@ extern "C" {
  * Writes a fresh replica of card `own` for `cards` cards and `counters`
  * counters. Answers 0, or
  *   1  words_len is not YELANSUB_REPLICA_WORDS(cards, counters), cards is not 1
- *      to 16, counters is not 1 to 64, or own is not below cards.
+ *      to YELANSUB_MOST_CARDS, counters is not 1 to YELANSUB_MOST_COUNTERS, or
+ *      own is not below cards.
  * The words are, in order: r, k, own card; C[j] for each card, its increments
  * received; N[j] for each card, its messages received; then, counter by counter,
  * p, n and c for each card, zeros where that card has no entry.
@@ -131,8 +132,8 @@ struct yelansub_sent {
 };
 
 /*
- * Counts one on the own card and writes the message to send, always 36 bytes.
- * Refused with, in this order,
+ * Counts one on the own card and writes the message to send, always of
+ * YELANSUB_INCREMENT_BYTES. Refused with, in this order,
  *   1, 3, 2  as yelansub_read,
  *   4  the card has made its last message,
  *   5  out_len is below YELANSUB_INCREMENT_BYTES.
@@ -144,8 +145,8 @@ struct yelansub_sent yelansub_count(uint64_t *words, size_t words_len, uint64_t 
 
 /*
  * Clears what this card has seen of a counter and writes the message to send,
- * 28 bytes and 20 more for each holder; YELANSUB_LONGEST_MESSAGE bytes of output
- * are enough for any. Refused as yelansub_count, with
+ * YELANSUB_CLEAR_BYTES of its number of holders; YELANSUB_LONGEST_MESSAGE bytes
+ * of output are enough for any. Refused as yelansub_count, with
  *   5  out_len is below the length of this message.
  */
 struct yelansub_sent yelansub_clear(uint64_t *words, size_t words_len, uint64_t counter,
@@ -174,7 +175,7 @@ struct yelansub_taken yelansub_take(uint64_t *words, size_t words_len,
                                     const uint8_t *message, size_t message_len);
 
 struct yelansub_clear_entry {
-    uint32_t card; /* 0 to 15, above the card of the entry before */
+    uint32_t card; /* below YELANSUB_MOST_CARDS, above the card of the entry before */
     uint64_t p, c; /* 1 <= p <= c <= YELANSUB_MAX */
 };
 
@@ -186,12 +187,12 @@ struct yelansub_clear_entry {
 struct yelansub_message {
     uint32_t version;  /* YELANSUB_MESSAGE_VERSION */
     uint32_t kind;     /* YELANSUB_MESSAGE_INCREMENT or YELANSUB_MESSAGE_CLEAR */
-    uint32_t sender;   /* 0 to 15 */
+    uint32_t sender;   /* below YELANSUB_MOST_CARDS */
     uint64_t sequence; /* 1 to YELANSUB_MAX, counting the sender's messages from 1 */
-    uint32_t counter;  /* 0 to 63 */
+    uint32_t counter;  /* below YELANSUB_MOST_COUNTERS */
     uint64_t p;        /* increment: 1 to YELANSUB_MAX */
     uint32_t start;    /* increment: 0 or 1 */
-    size_t len;        /* clear: how many entries, 0 to 16 */
+    size_t len;        /* clear: how many entries, 0 to YELANSUB_MOST_CARDS */
     struct yelansub_clear_entry entries[YELANSUB_MOST_CARDS];
 };
 
@@ -215,10 +216,10 @@ struct yelansub_written {
 };
 
 /*
- * Writes a message to the first bytes of out: 36 bytes for an increment, 28 and
- * 20 more for each entry for a clear. What it writes, yelansub_read_message reads
- * as the same message; what that call has read is written as the same bytes.
- * Refused with, in this order,
+ * Writes a message to the first bytes of out: YELANSUB_INCREMENT_BYTES for an
+ * increment, YELANSUB_CLEAR_BYTES(len) for a clear. What it writes,
+ * yelansub_read_message reads as the same message; what that call has read is
+ * written as the same bytes. Refused with, in this order,
  *   6  a field is out of range, or one that the kind does not use is not 0,
  *   5  out_len is below the length of this message.
  * After a refusal no byte of out has changed.
@@ -244,8 +245,9 @@ struct yelansub_span yelansub_waiting(const uint8_t *log, size_t log_len, uint64
  * messages are put end to end; answers has one word for each step. A step is
  * three unsigned ints, big-endian: kind (YELANSUB_STEP_...), then card and
  * counter, or receiver and sender. Answers 0, or
- *   11  cards is not 1 to 16, counters is not 1 to 64, steps_len is no multiple
- *       of 12, or words_len, logs_len or answers_len does not fit.
+ *   11  cards is not 1 to YELANSUB_MOST_CARDS, counters is not 1 to
+ *       YELANSUB_MOST_COUNTERS, steps_len is no multiple of
+ *       YELANSUB_STEP_BYTES, or words_len, logs_len or answers_len does not fit.
  * Each step's answer is 0, or the first of
  *   12  the kind is not 1, 2 or 3,
  *   7   a card is not below cards, or a delivery names one card twice,

@@ -12,26 +12,29 @@
 
 #include "yelansub.h"
 
-/* The library's layout of a message, as the compiler of this header sees it. */
-#define LAID_OUT(type, field, at) _Static_assert(offsetof(struct type, field) == (at), #type "." #field)
-LAID_OUT(yelansub_clear_entry, p, 8);
-LAID_OUT(yelansub_clear_entry, c, 16);
-LAID_OUT(yelansub_message, kind, 4);
-LAID_OUT(yelansub_message, sender, 8);
-LAID_OUT(yelansub_message, sequence, 16);
-LAID_OUT(yelansub_message, counter, 24);
-LAID_OUT(yelansub_message, p, 32);
-LAID_OUT(yelansub_message, start, 40);
-LAID_OUT(yelansub_message, len, 48);
-LAID_OUT(yelansub_message, entries, 56);
-LAID_OUT(yelansub_message_reading, message, 8);
-LAID_OUT(yelansub_written, length, 8);
-_Static_assert(sizeof(struct yelansub_clear_entry) == 24, "a clear's entry");
-_Static_assert(sizeof(struct yelansub_message) == 440, "a message");
-_Static_assert(sizeof(struct yelansub_message_reading) == 448, "a message read");
-_Static_assert(sizeof(struct yelansub_written) == 16, "a message written");
-
 enum { PAGE = 4096, MARK = 0xa5 };
+
+/* Where words of a replica stand: the head, C of each card, N of each card, then the counters' rows
+   of one entry for each card. How many words each part has follows from the header's macro. */
+enum { CARDS_AT, COUNTERS_AT, OWN_AT };
+enum { P, N, C };
+enum { HEAD_WORDS = YELANSUB_REPLICA_WORDS(0, 0) };
+enum { ENTRY_WORDS = YELANSUB_REPLICA_WORDS(1, 1) - YELANSUB_REPLICA_WORDS(1, 0) };
+
+static size_t increments_at(size_t card)
+{
+    return HEAD_WORDS + card;
+}
+
+static size_t messages_at(size_t cards, size_t card)
+{
+    return HEAD_WORDS + cards + card;
+}
+
+static size_t entry_at(size_t cards, size_t counter, size_t card)
+{
+    return YELANSUB_REPLICA_WORDS(cards, counter) + ENTRY_WORDS * card;
+}
 
 static const char *doing = "start";
 static unsigned checks;
@@ -107,10 +110,13 @@ static uint64_t any(uint64_t below)
 
 static const struct yelansub_message no_message;
 
-/* An increment, or a clear of `entries` cards from 0 on. */
+/* An increment, or a clear of `entries` cards from 0 on, its fields as large as they may be. */
 static struct yelansub_message message_of(unsigned kind, size_t entries)
 {
-    struct yelansub_message m = {1, kind, 15, YELANSUB_MAX, 63, 0, 0, 0, {{0, 0, 0}}};
+    struct yelansub_message m = {.version = YELANSUB_MESSAGE_VERSION, .kind = kind};
+    m.sender = YELANSUB_MOST_CARDS - 1;
+    m.sequence = YELANSUB_MAX;
+    m.counter = YELANSUB_MOST_COUNTERS - 1;
     if (kind == YELANSUB_MESSAGE_INCREMENT) {
         m.p = YELANSUB_MAX;
         m.start = 1;
@@ -118,6 +124,42 @@ static struct yelansub_message message_of(unsigned kind, size_t entries)
     for (m.len = 0; m.len < entries; m.len++)
         m.entries[m.len] = (struct yelansub_clear_entry){(uint32_t)m.len, 1 + m.len, YELANSUB_MAX - m.len};
     return m;
+}
+
+static uint8_t *put_int(uint8_t *at, uint32_t number)
+{
+    for (int shift = 24; shift >= 0; shift -= 8)
+        *at++ = (uint8_t)(number >> shift);
+    return at;
+}
+
+static uint8_t *put_hyper(uint8_t *at, uint64_t number)
+{
+    return put_int(put_int(at, (uint32_t)(number >> 32)), (uint32_t)number);
+}
+
+static uint8_t *put_header(uint8_t *at, const struct yelansub_message *m)
+{
+    at = put_int(at, m->version);
+    at = put_int(at, m->kind);
+    at = put_int(at, m->sender);
+    at = put_hyper(at, m->sequence);
+    return put_int(at, m->counter);
+}
+
+/* The bytes of a message, its fields in range or not; gives how many. What is no increment is
+   written as a clear; an entry more than there are is the first again. */
+static size_t put_message(uint8_t *out, const struct yelansub_message *m)
+{
+    uint8_t *at = put_header(out, m);
+    if (m->kind == YELANSUB_MESSAGE_INCREMENT)
+        return (size_t)(put_int(put_hyper(at, m->p), m->start) - out);
+    at = put_int(at, (uint32_t)m->len);
+    for (size_t i = 0; i < m->len; i++) {
+        const struct yelansub_clear_entry *entry = &m->entries[i % YELANSUB_MOST_CARDS];
+        at = put_hyper(put_hyper(put_int(at, entry->card), entry->p), entry->c);
+    }
+    return (size_t)(at - out);
 }
 
 /* The same in every field; what lies between fields says nothing. */
@@ -141,113 +183,215 @@ static void no_memory(void)
     size_t len = sizeof fresh / sizeof *fresh;
     uint64_t both[2 * YELANSUB_REPLICA_WORDS(2, 1)];
     doing = "length 0";
-    HOLD(yelansub_open(fresh, len, 2, 1, 0) == 0);
+    HOLD(yelansub_open(fresh, len, 2, 1, 0) == YELANSUB_OK);
     keep(&page);
     for (int i = 0; i < 2; i++) {
         void *p = nothing[i];
-        HOLD(yelansub_open(p, 0, 1, 1, 0) == 1);
+        HOLD(yelansub_open(p, 0, 1, 1, 0) == YELANSUB_BAD_REPLICA);
         struct yelansub_reading reading = yelansub_read(p, 0, 0);
-        HOLD(reading.number == 1 && !reading.value && !reading.holders && !reading.holder_count);
+        HOLD(reading.number == YELANSUB_BAD_REPLICA && !reading.value && !reading.holders && !reading.holder_count);
         struct yelansub_sent sent = yelansub_count(p, 0, 0, p, 0);
-        HOLD(sent.number == 1 && !sent.sequence && !sent.length);
+        HOLD(sent.number == YELANSUB_BAD_REPLICA && !sent.sequence && !sent.length);
         sent = yelansub_clear(p, 0, 0, p, 0);
-        HOLD(sent.number == 1 && !sent.sequence && !sent.length);
-        HOLD(yelansub_count(fresh, len, 0, p, 0).number == 5);
-        HOLD(yelansub_clear(fresh, len, 0, p, 0).number == 5);
+        HOLD(sent.number == YELANSUB_BAD_REPLICA && !sent.sequence && !sent.length);
+        HOLD(yelansub_count(fresh, len, 0, p, 0).number == YELANSUB_SHORT_OUTPUT);
+        HOLD(yelansub_clear(fresh, len, 0, p, 0).number == YELANSUB_SHORT_OUTPUT);
         struct yelansub_taken taken = yelansub_take(p, 0, p, 0);
-        HOLD(taken.number == 1 && !taken.sequence);
-        HOLD(yelansub_take(fresh, len, p, 0).number == 6);
+        HOLD(taken.number == YELANSUB_BAD_REPLICA && !taken.sequence);
+        HOLD(yelansub_take(fresh, len, p, 0).number == YELANSUB_UNREADABLE);
         struct yelansub_message_reading read = yelansub_read_message(p, 0);
-        HOLD(read.number == 6 && same(&read.message, &no_message));
-        struct yelansub_written written = yelansub_write_message(message_of(2, 0), p, 0);
-        HOLD(written.number == 5 && !written.length);
+        HOLD(read.number == YELANSUB_UNREADABLE && same(&read.message, &no_message));
+        struct yelansub_written written = yelansub_write_message(message_of(YELANSUB_MESSAGE_CLEAR, 0), p, 0);
+        HOLD(written.number == YELANSUB_SHORT_OUTPUT && !written.length);
         written = yelansub_write_message(no_message, p, 0);
-        HOLD(written.number == 6 && !written.length);
+        HOLD(written.number == YELANSUB_UNREADABLE && !written.length);
         struct yelansub_span span = yelansub_waiting(p, 0, 1);
         HOLD(span.start == 0 && span.length == 0);
         span = yelansub_waiting(p, 0, 0);
         HOLD(span.start == 0 && span.length == 0);
-        HOLD(yelansub_run(1, 1, 0, p, 0, p, 0, p, 0, p, 0) == 11);
-        HOLD(yelansub_run(2, 1, 0, p, 0, both, 2 * len, p, 0, p, 0) == 0);
-        HOLD(yelansub_run(16, 1, UINT64_C(1) << 60, p, 0, p, 0, p, 0, p, 0) == 11);
-        HOLD(yelansub_run_records(1, 1, 0, p, 0, p, 0, p, 0, p, 0) == 11);
-        HOLD(yelansub_run_records(2, 1, 0, p, 0, both, 2 * len, p, 0, p, 0) == 0);
+        HOLD(yelansub_run(1, 1, 0, p, 0, p, 0, p, 0, p, 0) == YELANSUB_BAD_SIZES);
+        HOLD(yelansub_run(2, 1, 0, p, 0, both, 2 * len, p, 0, p, 0) == YELANSUB_OK);
+        /* Two logs of 2^63 bytes: the product wraps to 0. */
+        HOLD(yelansub_run(2, 1, UINT64_C(1) << 63, p, 0, both, 2 * len, p, 0, p, 0) == YELANSUB_BAD_SIZES);
+        HOLD(yelansub_run_records(2, 1, UINT64_C(1) << 63, p, 0, both, 2 * len, p, 0, p, 0) == YELANSUB_BAD_SIZES);
+        HOLD(yelansub_run_records(1, 1, 0, p, 0, p, 0, p, 0, p, 0) == YELANSUB_BAD_SIZES);
+        HOLD(yelansub_run_records(2, 1, 0, p, 0, both, 2 * len, p, 0, p, 0) == YELANSUB_OK);
     }
     HOLD(unchanged(&page));
     drop(&page);
 }
 
-/* The message as a driver would hold it: an increment, before any change. */
-static void increment(uint8_t *m, unsigned sender, uint64_t sequence, unsigned counter)
+/* Words that open takes for no replica, their length fitting r and k: every call gives 1. */
+static void refused_head(uint64_t cards, uint64_t counters, uint64_t own, size_t len, int at_end)
 {
-    memset(m, 0, YELANSUB_INCREMENT_BYTES);
-    m[3] = m[7] = 1;
-    m[11] = (uint8_t)sender;
-    for (int i = 0; i < 8; i++) {
-        m[12 + i] = (uint8_t)(sequence >> (56 - 8 * i));
-        m[24 + i] = m[12 + i];
-    }
-    m[23] = (uint8_t)counter;
-    m[35] = 1;
-}
-
-/* Every refusal of every call on a replica of 2 cards, card 0's. */
-static void refusals(int at_end)
-{
-    enum { WORDS = YELANSUB_REPLICA_WORDS(2, 1), C0 = 3, N0 = 5, N1 = 6, ENTRY0 = 7 };
-    struct area w = area(WORDS * sizeof(uint64_t), at_end);
-    struct area o = area(YELANSUB_LONGEST_MESSAGE, at_end);
-    struct area m = area(YELANSUB_INCREMENT_BYTES, at_end);
+    struct area w = area(len * sizeof(uint64_t), at_end), o = area(YELANSUB_LONGEST_MESSAGE, at_end);
     uint64_t *words = in(&w);
-    struct { unsigned at; uint64_t value; uint64_t counter, room, number; } send[] = {
-        {0, 17, 0, 348, 1}, {1, 65, 0, 348, 1}, {2, 2, 0, 348, 1}, {0, 0, 0, 348, 1},
-        {C0, 0, 1, 348, 3}, {C0, 0, UINT64_MAX, 348, 3},
-        {C0, 1, 0, 348, 2}, {N1, YELANSUB_MAX + 1, 0, 348, 2}, {ENTRY0, 1, 0, 348, 2},
-        {N0, YELANSUB_MAX, 0, 348, 4}, {C0, 0, 0, 27, 5}, {C0, 0, 0, 0, 5},
-    };
-    for (size_t i = 0; i < sizeof send / sizeof *send; i++) {
-        doing = "refused count, clear and read";
-        HOLD(yelansub_open(words, WORDS, 2, 1, 0) == 0);
-        words[send[i].at] = send[i].value;
-        keep(&w);
-        keep(&o);
-        struct yelansub_sent sent = yelansub_count(words, WORDS, send[i].counter, in(&o), send[i].room);
-        HOLD(sent.number == send[i].number && !sent.sequence && !sent.length);
-        sent = yelansub_clear(words, WORDS, send[i].counter, in(&o), send[i].room);
-        HOLD(sent.number == send[i].number && !sent.sequence && !sent.length);
-        struct yelansub_reading r = yelansub_read(words, WORDS, send[i].counter);
-        HOLD(r.number == (send[i].number < 4 ? send[i].number : 0) && !r.value && !r.holders);
-        HOLD(unchanged(&w) && unchanged(&o));
-    }
-    struct { unsigned at; uint64_t value; unsigned byte, is; uint64_t number; } take[] = {
-        {0, 3, 0, 0, 1}, {C0, 0, 3, 2, 6}, {C0, 0, 7, 3, 6}, {C0, 0, 11, 16, 6}, {C0, 0, 19, 0, 6},
-        {C0, 0, 12, 1, 6}, {C0, 0, 23, 64, 6}, {C0, 0, 31, 0, 6}, {C0, 0, 35, 2, 6},
-        {C0, 0, 23, 1, 3}, {C0, 1, 0, 0, 2}, {C0, 0, 11, 0, 7}, {C0, 0, 11, 2, 7},
-        {N1, 1, 0, 0, 8}, {C0, 0, 19, 2, 9}, {C0, 0, 31, 2, 10}, {C0, 0, 35, 0, 10},
-    };
-    for (size_t i = 0; i < sizeof take / sizeof *take; i++) {
-        doing = "refused take";
-        HOLD(yelansub_open(words, WORDS, 2, 1, 0) == 0);
-        words[take[i].at] = take[i].value;
-        if (take[i].at == 0)
-            words[0] = 3;
-        increment(in(&m), 1, 1, 0);
-        if (take[i].byte)
-            ((uint8_t *)in(&m))[take[i].byte] = (uint8_t)take[i].is;
-        keep(&w);
-        keep(&m);
-        struct yelansub_taken taken = yelansub_take(words, WORDS, in(&m), YELANSUB_INCREMENT_BYTES);
-        HOLD(taken.number == take[i].number && taken.sequence == 0);
-        HOLD(unchanged(&w) && unchanged(&m));
-    }
-    doing = "refused open";
     keep(&w);
-    HOLD(yelansub_open(words, WORDS, 2, 1, 2) == 1 && yelansub_open(words, WORDS, 17, 1, 0) == 1);
-    HOLD(yelansub_open(words, WORDS, 2, 65, 0) == 1 && yelansub_open(words, WORDS, 0, 1, 0) == 1);
-    HOLD(yelansub_open(words, WORDS - 1, 2, 1, 0) == 1 && unchanged(&w));
+    keep(&o);
+    doing = "open with wrong numbers";
+    HOLD(yelansub_open(words, len, cards, counters, own) == YELANSUB_BAD_REPLICA && unchanged(&w));
+    memset(words, 0, w.len);
+    if (len >= HEAD_WORDS) {
+        words[CARDS_AT] = cards;
+        words[COUNTERS_AT] = counters;
+        words[OWN_AT] = own;
+    }
+    keep(&w);
+    doing = "calls on words with a wrong head";
+    struct yelansub_reading reading = yelansub_read(words, len, 0);
+    HOLD(reading.number == YELANSUB_BAD_REPLICA && !reading.value && !reading.holders && !reading.holder_count);
+    struct yelansub_sent sent = yelansub_count(words, len, 0, in(&o), o.len);
+    HOLD(sent.number == YELANSUB_BAD_REPLICA && !sent.sequence && !sent.length);
+    sent = yelansub_clear(words, len, 0, in(&o), o.len);
+    HOLD(sent.number == YELANSUB_BAD_REPLICA && !sent.sequence && !sent.length);
+    struct yelansub_taken taken = yelansub_take(words, len, in(&o), o.len);
+    HOLD(taken.number == YELANSUB_BAD_REPLICA && !taken.sequence);
+    HOLD(unchanged(&w) && unchanged(&o));
     drop(&w);
     drop(&o);
+}
+
+static void refused_heads(int at_end)
+{
+    enum { R = YELANSUB_MOST_CARDS, K = YELANSUB_MOST_COUNTERS };
+    struct { uint64_t cards, counters, own; } wrong[] = {
+        {0, 1, 0}, {1, 0, 0}, {0, 0, 0}, {1, 1, 1}, {2, 1, 2}, {R, K, R}, {1, 1, UINT64_MAX},
+        {R + 1, 1, 0}, {1, K + 1, 0}, {R + 1, K, 0}, {R, K + 1, 0},
+        /* Sums that wrap, to the head alone and to one word more. */
+        {UINT64_C(1) << 63, 2, 0}, {UINT64_C(0xcccccccccccccccd), 1, 0},
+    };
+    for (size_t i = 0; i < sizeof wrong / sizeof *wrong; i++)
+        refused_head(wrong[i].cards, wrong[i].counters, wrong[i].own,
+                     YELANSUB_REPLICA_WORDS(wrong[i].cards, wrong[i].counters), at_end);
+    /* A word too few, a word too many, and at most a head. */
+    refused_head(2, 1, 0, YELANSUB_REPLICA_WORDS(2, 1) - 1, at_end);
+    refused_head(2, 1, 0, YELANSUB_REPLICA_WORDS(2, 1) + 1, at_end);
+    for (size_t len = 0; len <= HEAD_WORDS; len++)
+        refused_head(1, 1, 0, len, at_end);
+}
+
+/* Refusals of the calls on card 0 of two with one counter, one word of its fresh replica changed. */
+enum { CARDS = 2, WORDS = YELANSUB_REPLICA_WORDS(CARDS, 1) };
+
+struct change {
+    size_t at;
+    uint64_t to;
+};
+#define SET(at, to) ((struct change){(at), (to)})
+
+static struct area opened(struct change change, int at_end)
+{
+    struct area w = area(WORDS * sizeof(uint64_t), at_end);
+    HOLD(yelansub_open(in(&w), WORDS, CARDS, 1, 0) == YELANSUB_OK);
+    ((uint64_t *)in(&w))[change.at] = change.to;
+    keep(&w);
+    return w;
+}
+
+static void refused_send(int at_end, struct change change, uint64_t counter, size_t room, uint64_t number)
+{
+    struct area w = opened(change, at_end), o = area(room, at_end);
+    uint64_t *words = in(&w);
+    keep(&o);
+    doing = "refused count, clear and read";
+    struct yelansub_sent sent = yelansub_count(words, WORDS, counter, in(&o), room);
+    HOLD(sent.number == number && !sent.sequence && !sent.length);
+    /* A clear of nothing is shorter than an increment. */
+    if (number != YELANSUB_SHORT_OUTPUT || room < YELANSUB_CLEAR_BYTES(0)) {
+        sent = yelansub_clear(words, WORDS, counter, in(&o), room);
+        HOLD(sent.number == number && !sent.sequence && !sent.length);
+    }
+    int reads = number == YELANSUB_EXHAUSTED || number == YELANSUB_SHORT_OUTPUT;
+    struct yelansub_reading r = yelansub_read(words, WORDS, counter);
+    HOLD(r.number == (reads ? YELANSUB_OK : number) && !r.value && !r.holders && !r.holder_count);
+    HOLD(unchanged(&w) && unchanged(&o));
+    drop(&w);
+    drop(&o);
+}
+
+static void refused_take(int at_end, struct change change, struct yelansub_message message, uint64_t number)
+{
+    uint8_t bytes[YELANSUB_CLEAR_BYTES(YELANSUB_MOST_CARDS + 1)];
+    struct area w = opened(change, at_end), m = area(put_message(bytes, &message), at_end);
+    memcpy(in(&m), bytes, m.len);
+    keep(&m);
+    doing = "refused take";
+    struct yelansub_taken taken = yelansub_take(in(&w), WORDS, in(&m), m.len);
+    HOLD(taken.number == number && taken.sequence == 0);
+    HOLD(unchanged(&w) && unchanged(&m));
+    drop(&w);
     drop(&m);
+}
+
+static void refusals(int at_end)
+{
+    const size_t c0 = increments_at(0), n0 = messages_at(CARDS, 0), n1 = messages_at(CARDS, 1);
+    const size_t entry0 = entry_at(CARDS, 0, 0), entry1 = entry_at(CARDS, 0, 1);
+    const size_t any_room = YELANSUB_LONGEST_MESSAGE;
+    const struct change none = {CARDS_AT, CARDS};
+    refused_send(at_end, SET(CARDS_AT, 0), 0, any_room, YELANSUB_BAD_REPLICA);
+    refused_send(at_end, SET(CARDS_AT, CARDS + 1), 0, any_room, YELANSUB_BAD_REPLICA);
+    refused_send(at_end, SET(COUNTERS_AT, 0), 0, any_room, YELANSUB_BAD_REPLICA);
+    refused_send(at_end, SET(COUNTERS_AT, 2), 0, any_room, YELANSUB_BAD_REPLICA);
+    refused_send(at_end, SET(OWN_AT, CARDS), 0, any_room, YELANSUB_BAD_REPLICA);
+    refused_send(at_end, none, 1, any_room, YELANSUB_BAD_COUNTER);
+    refused_send(at_end, none, UINT64_MAX, any_room, YELANSUB_BAD_COUNTER);
+    refused_send(at_end, SET(c0, 1), 0, any_room, YELANSUB_BAD_ROW); /* C above N */
+    refused_send(at_end, SET(n0, YELANSUB_MAX + 1), 0, any_room, YELANSUB_BAD_ROW);
+    refused_send(at_end, SET(n1, YELANSUB_MAX + 1), 0, any_room, YELANSUB_BAD_ROW);
+    refused_send(at_end, SET(entry0 + P, 1), 0, any_room, YELANSUB_BAD_ROW); /* p above c */
+    refused_send(at_end, SET(entry1 + P, 1), 0, any_room, YELANSUB_BAD_ROW);
+    refused_send(at_end, SET(entry1 + N, 1), 0, any_room, YELANSUB_BAD_ROW); /* n above p */
+    refused_send(at_end, SET(entry1 + C, 1), 0, any_room, YELANSUB_BAD_ROW); /* no p */
+    refused_send(at_end, SET(n0, YELANSUB_MAX), 0, any_room, YELANSUB_EXHAUSTED);
+    refused_send(at_end, none, 0, YELANSUB_INCREMENT_BYTES - 1, YELANSUB_SHORT_OUTPUT);
+    refused_send(at_end, none, 0, YELANSUB_CLEAR_BYTES(0) - 1, YELANSUB_SHORT_OUTPUT);
+    refused_send(at_end, none, 0, 0, YELANSUB_SHORT_OUTPUT);
+
+    /* Card 1's first message: an increment that would be taken, and a clear with an entry. */
+    struct yelansub_message next = {.version = YELANSUB_MESSAGE_VERSION, .sender = 1, .sequence = 1};
+    struct yelansub_message increment = next, clear = next, m;
+    increment.kind = YELANSUB_MESSAGE_INCREMENT;
+    increment.p = increment.start = 1;
+    clear.kind = YELANSUB_MESSAGE_CLEAR;
+    clear.len = 1;
+    clear.entries[0] = (struct yelansub_clear_entry){1, 1, 1};
+#define WITH(message, field, value) (m = (message), m.field = (value), m)
+    refused_take(at_end, SET(CARDS_AT, CARDS + 1), increment, YELANSUB_BAD_REPLICA);
+    refused_take(at_end, none, WITH(increment, version, YELANSUB_MESSAGE_VERSION + 1), YELANSUB_UNREADABLE);
+    refused_take(at_end, none, WITH(clear, kind, 0), YELANSUB_UNREADABLE);
+    refused_take(at_end, none, WITH(clear, kind, YELANSUB_MESSAGE_CLEAR + 1), YELANSUB_UNREADABLE);
+    refused_take(at_end, none, WITH(increment, sender, YELANSUB_MOST_CARDS), YELANSUB_UNREADABLE);
+    refused_take(at_end, none, WITH(increment, sequence, 0), YELANSUB_UNREADABLE);
+    refused_take(at_end, none, WITH(increment, sequence, YELANSUB_MAX + 1), YELANSUB_UNREADABLE);
+    refused_take(at_end, none, WITH(increment, counter, YELANSUB_MOST_COUNTERS), YELANSUB_UNREADABLE);
+    refused_take(at_end, none, WITH(increment, p, 0), YELANSUB_UNREADABLE);
+    refused_take(at_end, none, WITH(increment, p, YELANSUB_MAX + 1), YELANSUB_UNREADABLE);
+    refused_take(at_end, none, WITH(increment, start, 2), YELANSUB_UNREADABLE);
+    refused_take(at_end, none, WITH(clear, entries[0].card, YELANSUB_MOST_CARDS), YELANSUB_UNREADABLE);
+    refused_take(at_end, none, WITH(clear, entries[0].p, 0), YELANSUB_UNREADABLE);
+    refused_take(at_end, none, WITH(clear, entries[0].p, 2), YELANSUB_UNREADABLE);
+    refused_take(at_end, none, WITH(clear, entries[0].c, YELANSUB_MAX + 1), YELANSUB_UNREADABLE);
+    refused_take(at_end, none, WITH(clear, len, 2), YELANSUB_UNREADABLE); /* card 0 after card 1 */
+    struct yelansub_message full = message_of(YELANSUB_MESSAGE_CLEAR, YELANSUB_MOST_CARDS);
+    refused_take(at_end, none, WITH(full, len, YELANSUB_MOST_CARDS + 1), YELANSUB_UNREADABLE);
+    refused_take(at_end, none, WITH(increment, counter, 1), YELANSUB_BAD_COUNTER);
+    refused_take(at_end, none, WITH(increment, counter, YELANSUB_MOST_COUNTERS - 1), YELANSUB_BAD_COUNTER);
+    refused_take(at_end, SET(c0, 1), increment, YELANSUB_BAD_ROW);
+    refused_take(at_end, none, WITH(increment, sender, 0), YELANSUB_BAD_CARD); /* the own card */
+    refused_take(at_end, none, WITH(increment, sender, CARDS), YELANSUB_BAD_CARD);
+    refused_take(at_end, none, WITH(increment, sender, YELANSUB_MOST_CARDS - 1), YELANSUB_BAD_CARD);
+    refused_take(at_end, none, WITH(clear, entries[0].card, CARDS), YELANSUB_BAD_CARD);
+    refused_take(at_end, SET(n1, 1), increment, YELANSUB_REPEATED);
+    refused_take(at_end, SET(n1, YELANSUB_MAX), WITH(increment, sequence, YELANSUB_MAX), YELANSUB_REPEATED);
+    refused_take(at_end, none, WITH(increment, sequence, 2), YELANSUB_EARLY);
+    refused_take(at_end, none, WITH(increment, sequence, YELANSUB_MAX), YELANSUB_EARLY);
+    refused_take(at_end, none, WITH(increment, p, 2), YELANSUB_IMPLAUSIBLE);
+    refused_take(at_end, none, WITH(increment, p, YELANSUB_MAX), YELANSUB_IMPLAUSIBLE);
+    refused_take(at_end, none, WITH(increment, start, 0), YELANSUB_IMPLAUSIBLE);
+    refused_take(at_end, none, clear, YELANSUB_IMPLAUSIBLE); /* of an increment that its sender has not made */
+    refused_take(at_end, none, WITH(clear, entries[0].card, 0), YELANSUB_IMPLAUSIBLE); /* nor this card */
+#undef WITH
 }
 
 /* Every message length, with one byte of output too few, none to spare, and more. */
@@ -255,21 +399,26 @@ static void exact_messages(int at_end)
 {
     for (size_t entries = 0; entries <= YELANSUB_MOST_CARDS + 1; entries++) {
         int is_clear = entries <= YELANSUB_MOST_CARDS;
-        struct yelansub_message message = is_clear ? message_of(2, entries) : message_of(1, 0);
+        struct yelansub_message message =
+            is_clear ? message_of(YELANSUB_MESSAGE_CLEAR, entries) : message_of(YELANSUB_MESSAGE_INCREMENT, 0);
         size_t bytes = is_clear ? YELANSUB_CLEAR_BYTES(entries) : YELANSUB_INCREMENT_BYTES;
+        uint8_t due[YELANSUB_LONGEST_MESSAGE];
+        doing = "the length of a message";
+        HOLD(put_message(due, &message) == bytes);
         for (size_t room = bytes - 1; room <= bytes + 2; room++) {
             struct area m = area(room, at_end);
             doing = "write a message";
             keep(&m);
             struct yelansub_written written = yelansub_write_message(message, in(&m), room);
             if (room < bytes)
-                HOLD(written.number == 5 && !written.length && unchanged(&m));
+                HOLD(written.number == YELANSUB_SHORT_OUTPUT && !written.length && unchanged(&m));
             else
-                HOLD(written.number == 0 && written.length == bytes && only(&m, bytes));
+                HOLD(written.number == YELANSUB_OK && written.length == bytes && only(&m, bytes) &&
+                     memcmp(in(&m), due, bytes) == 0);
             doing = "read a message";
             keep(&m);
             struct yelansub_message_reading read = yelansub_read_message(in(&m), room);
-            HOLD(read.number == (room == bytes ? 0 : 6) && unchanged(&m));
+            HOLD(read.number == (room == bytes ? YELANSUB_OK : YELANSUB_UNREADABLE) && unchanged(&m));
             HOLD(same(&read.message, room == bytes ? &message : &no_message));
             drop(&m);
         }
@@ -279,38 +428,40 @@ static void exact_messages(int at_end)
 /* Each field out of range, and each that the kind does not use not 0. */
 static void refused_messages(int at_end)
 {
-    struct yelansub_message wrong[32], increment = message_of(1, 0), clear = message_of(2, 3);
+    enum { LAST = YELANSUB_MOST_CARDS - 1 };
+    struct yelansub_message wrong[32], increment = message_of(YELANSUB_MESSAGE_INCREMENT, 0);
+    struct yelansub_message clear = message_of(YELANSUB_MESSAGE_CLEAR, 3);
     size_t n = 0;
 #define WRONG(of, field, value) (wrong[n] = (of), wrong[n++].field = (value))
-    WRONG(increment, version, 2);
+    WRONG(increment, version, YELANSUB_MESSAGE_VERSION + 1);
     WRONG(increment, kind, 0);
-    WRONG(increment, kind, 3);
-    WRONG(increment, sender, 16);
+    WRONG(increment, kind, YELANSUB_MESSAGE_CLEAR + 1);
+    WRONG(increment, sender, YELANSUB_MOST_CARDS);
     WRONG(increment, sequence, 0);
     WRONG(increment, sequence, YELANSUB_MAX + 1);
-    WRONG(increment, counter, 64);
+    WRONG(increment, counter, YELANSUB_MOST_COUNTERS);
     WRONG(increment, p, 0);
     WRONG(increment, p, YELANSUB_MAX + 1);
     WRONG(increment, start, 2);
     WRONG(increment, len, 1);
     WRONG(increment, len, SIZE_MAX);
     WRONG(increment, entries[0].card, 1);
-    WRONG(increment, entries[15].c, 1);
+    WRONG(increment, entries[LAST].c, 1);
     WRONG(clear, version, 0);
-    WRONG(clear, kind, 1);
+    WRONG(clear, kind, YELANSUB_MESSAGE_INCREMENT);
     WRONG(clear, p, 1);
     WRONG(clear, start, 1);
     WRONG(clear, len, 2);
     WRONG(clear, len, 4);
-    WRONG(clear, len, 17);
+    WRONG(clear, len, YELANSUB_MOST_CARDS + 1);
     WRONG(clear, len, SIZE_MAX);
-    WRONG(clear, entries[2].card, 16);
+    WRONG(clear, entries[2].card, YELANSUB_MOST_CARDS);
     WRONG(clear, entries[2].card, 1);
     WRONG(clear, entries[0].p, 0);
     WRONG(clear, entries[1].p, clear.entries[1].c + 1);
     WRONG(clear, entries[1].c, YELANSUB_MAX + 1);
     WRONG(clear, entries[3].p, 1);
-    WRONG(clear, entries[15].card, 15);
+    WRONG(clear, entries[LAST].card, LAST);
 #undef WRONG
     struct area o = area(YELANSUB_LONGEST_MESSAGE, at_end);
     keep(&o);
@@ -318,7 +469,7 @@ static void refused_messages(int at_end)
     for (size_t i = 0; i < n; i++)
         for (size_t room = 0; room <= o.len; room += o.len) {
             struct yelansub_written written = yelansub_write_message(wrong[i], in(&o), room);
-            HOLD(written.number == 6 && !written.length && unchanged(&o));
+            HOLD(written.number == YELANSUB_UNREADABLE && !written.length && unchanged(&o));
         }
     drop(&o);
 }
@@ -333,9 +484,15 @@ static void exact_buffers(unsigned cards, unsigned counters, int at_end)
         doing = "open";
         w[i] = area(len * sizeof(uint64_t), at_end);
         keep(&w[i]);
-        HOLD(yelansub_open(in(&w[i]), len, cards, counters, i) == 0 && only(&w[i], w[i].len));
+        HOLD(yelansub_open(in(&w[i]), len, cards, counters, i) == YELANSUB_OK && only(&w[i], w[i].len));
     }
     for (unsigned made = 0; made <= cards; made++) {
+        doing = "read of what all have counted";
+        for (unsigned i = 0; i < cards; i++) {
+            struct yelansub_reading reading = yelansub_read(in(&w[i]), len, counter);
+            HOLD(reading.number == YELANSUB_OK && reading.value == made && reading.holder_count == made);
+            HOLD(reading.holders == (UINT64_C(1) << made) - 1);
+        }
         unsigned maker = made % cards;
         size_t bytes = made < cards ? YELANSUB_INCREMENT_BYTES : YELANSUB_CLEAR_BYTES(cards);
         size_t room = bytes + made % 3;
@@ -348,13 +505,14 @@ static void exact_buffers(unsigned cards, unsigned counters, int at_end)
             sent = yelansub_count(in(&w[maker]), len, counter, in(&m), room);
         else
             sent = yelansub_clear(in(&w[maker]), len, counter, in(&m), room);
-        HOLD(sent.number == 0 && sent.length == bytes && only(&m, bytes) && only(&w[maker], w[maker].len));
+        HOLD(sent.number == YELANSUB_OK && sent.length == bytes && only(&m, bytes) && only(&w[maker], w[maker].len));
         doing = "take";
         keep(&m);
         for (unsigned to = 0; to < cards; to++) {
             keep(&w[to]);
             struct yelansub_taken taken = yelansub_take(in(&w[to]), len, in(&m), bytes);
-            HOLD(taken.number == (to == maker ? 7 : 0) && only(&w[to], w[to].len) && unchanged(&m));
+            HOLD(taken.number == (to == maker ? YELANSUB_BAD_CARD : YELANSUB_OK) && unchanged(&m));
+            HOLD(to == maker ? unchanged(&w[to]) : only(&w[to], w[to].len));
         }
         drop(&m);
     }
@@ -362,43 +520,67 @@ static void exact_buffers(unsigned cards, unsigned counters, int at_end)
     for (unsigned i = 0; i < cards; i++) {
         keep(&w[i]);
         struct yelansub_reading reading = yelansub_read(in(&w[i]), len, counter);
-        HOLD(reading.number == 0 && reading.value == 0 && reading.holders == 0 && unchanged(&w[i]));
+        HOLD(reading.number == YELANSUB_OK && !reading.value && !reading.holders && !reading.holder_count);
+        HOLD(unchanged(&w[i]));
         drop(&w[i]);
     }
+}
+
+/* Puts a message of card 1 to the front, as a rule: of any length that fits, or of the whole length where there is
+   such a message. Its entries are of cards from 2 on where there are so many, so that a fresh card 0 takes it. */
+static void put_front(uint8_t *bytes, size_t length)
+{
+    struct yelansub_message m = {.version = YELANSUB_MESSAGE_VERSION, .sender = 1, .sequence = 1, .p = 1, .start = 1};
+    size_t most = 0;
+    while (most < YELANSUB_MOST_CARDS && YELANSUB_CLEAR_BYTES(most + 1) <= length)
+        most++;
+    m.len = any(2) ? most : any(most + 1);
+    for (size_t i = 0; i < m.len; i++) {
+        size_t card = m.len + 2 <= YELANSUB_MOST_CARDS ? i + 2 : i;
+        m.entries[i] = (struct yelansub_clear_entry){(uint32_t)card, 1, 1};
+    }
+    m.kind = any(3) == 0 ? YELANSUB_MESSAGE_INCREMENT : YELANSUB_MESSAGE_CLEAR;
+    size_t needed = m.kind == YELANSUB_MESSAGE_INCREMENT ? YELANSUB_INCREMENT_BYTES : YELANSUB_CLEAR_BYTES(m.len);
+    if (needed <= length && any(8))
+        put_message(bytes, &m);
 }
 
 /* Bytes of every length, good at the front or not, to take, read_message and waiting. */
 static void odd_bytes(int at_end)
 {
-    size_t len = YELANSUB_REPLICA_WORDS(16, 1);
+    size_t len = YELANSUB_REPLICA_WORDS(YELANSUB_MOST_CARDS, 1);
     struct area w = area(len * sizeof(uint64_t), at_end);
-    for (size_t length = 0; length < 420; length++) {
+    unsigned accepted = 0, refused = 0, increments = 0, clears = 0, unreadable = 0, waiting = 0;
+    for (size_t length = 0; length < YELANSUB_LONGEST_MESSAGE + 80; length++) {
         struct area m = area(length, at_end), o = area(length, at_end);
         uint8_t *bytes = in(&m);
         for (int round = 0; round < 40; round++) {
-            HOLD(yelansub_open(in(&w), len, 16, 1, 0) == 0);
+            HOLD(yelansub_open(in(&w), len, YELANSUB_MOST_CARDS, 1, 0) == YELANSUB_OK);
             for (size_t i = 0; i < length; i++)
                 bytes[i] = (uint8_t)(any(3) ? 0 : any(3));
-            if (length >= 28) {
-                static const uint8_t header[20] = {0, 0, 0, 1, 0, 0, 0, 2, 0, 0, 0, 1, 0, 0, 0, 0, 0, 0, 0, 1};
-                memcpy(bytes, header, sizeof header);
-                memset(bytes + 20, 0, 7);
-                bytes[7] = (uint8_t)(1 + any(2));
-                if (bytes[7] == 2)
-                    bytes[27] = (uint8_t)any(18);
-            }
+            put_front(bytes, length);
+            if (length > 0 && any(3) == 0)
+                bytes[any(length)] ^= (uint8_t)(1 << any(8));
             keep(&w);
             keep(&m);
             doing = "take of odd bytes";
             struct yelansub_taken taken = yelansub_take(in(&w), len, bytes, length);
-            HOLD(unchanged(&m) && (taken.number == 0 ? only(&w, w.len) : unchanged(&w)));
+            HOLD(unchanged(&m) && (taken.number == YELANSUB_OK ? only(&w, w.len) : unchanged(&w)));
+            *(taken.number == YELANSUB_OK ? &accepted : &refused) += 1;
             doing = "reading odd bytes, and writing what was read";
             struct yelansub_message_reading read = yelansub_read_message(bytes, length);
-            HOLD(unchanged(&m) && (read.number == 0 || (read.number == 6 && same(&read.message, &no_message))));
+            HOLD(unchanged(&m));
+            if (read.number == YELANSUB_OK) {
+                *(read.message.kind == YELANSUB_MESSAGE_CLEAR ? &clears : &increments) += 1;
+            } else {
+                HOLD(read.number == YELANSUB_UNREADABLE && same(&read.message, &no_message));
+                HOLD(taken.number == YELANSUB_UNREADABLE);
+                unreadable++;
+            }
             keep(&o);
             struct yelansub_written written = yelansub_write_message(read.message, in(&o), length);
             HOLD(written.number == read.number);
-            if (written.number == 0)
+            if (written.number == YELANSUB_OK)
                 HOLD(written.length == length && only(&o, length) && memcmp(in(&o), bytes, length) == 0);
             else
                 HOLD(!written.length && unchanged(&o));
@@ -406,13 +588,23 @@ static void odd_bytes(int at_end)
             for (uint64_t q = 0; q < 4; q++) {
                 struct yelansub_span span = yelansub_waiting(bytes, length, q);
                 HOLD(span.start <= length && span.length <= length - span.start && unchanged(&m));
+                waiting += span.length > 0;
+                if (read.number == YELANSUB_OK)
+                    HOLD(span.start == 0 && span.length == (q == 1 ? length : 0));
             }
         }
         drop(&m);
         drop(&o);
     }
+    doing = "nothing of one kind among the odd bytes";
+    HOLD(accepted && refused && increments && clears && unreadable && waiting > increments + clears);
     drop(&w);
 }
+
+static unsigned answered[YELANSUB_LOG_FULL + 1]; /* how often a step gave each number */
+
+/* The last of the kinds of step, which are numbered from 1. */
+enum { LAST_KIND = YELANSUB_STEP_DELIVER };
 
 /* Runs of odd steps in exact buffers, by bytes and by records, and each size one off. */
 static void runs(unsigned cards, unsigned counters, uint64_t log, size_t steps, int at_end)
@@ -422,43 +614,49 @@ static void runs(unsigned cards, unsigned counters, uint64_t log, size_t steps, 
     struct area l = area(cards * log, at_end), a = area(steps * sizeof(uint64_t), at_end);
     struct area records = area(steps * sizeof(struct yelansub_step), at_end);
     struct yelansub_step *record = in(&records);
+    uint8_t *step = in(&s);
     for (size_t i = 0; i < steps; i++) {
-        uint8_t *step = (uint8_t *)in(&s) + i * YELANSUB_STEP_BYTES;
-        memset(step, 0, YELANSUB_STEP_BYTES);
-        step[3] = (uint8_t)(1 + any(3 + (any(9) == 0)));
-        step[7] = (uint8_t)any(cards + (any(9) == 0));
-        step[11] = (uint8_t)any((step[3] == 3 ? cards : counters) + (any(9) == 0));
-        record[i] = (struct yelansub_step){step[3], step[7], step[11]};
+        uint32_t kind = (uint32_t)(1 + any(LAST_KIND + (any(9) == 0)));
+        uint32_t first = (uint32_t)any(cards + (any(9) == 0));
+        uint32_t second = (uint32_t)any((kind == YELANSUB_STEP_DELIVER ? cards : counters) + (any(9) == 0));
+        record[i] = (struct yelansub_step){kind, first, second};
+        step = put_int(put_int(put_int(step, kind), first), second);
     }
     struct area *all[] = {&s, &w, &l, &a, &records};
     for (size_t i = 0; i < sizeof all / sizeof *all; i++)
         keep(all[i]);
     doing = "refused run";
     for (unsigned wrong = 0; wrong < 7; wrong++) {
-        size_t lens[] = {s.len, len, cards * log, steps};
+        size_t lens[] = {s.len, len, cards * log, steps}, count = steps;
         uint64_t numbers[] = {cards, counters, log};
         if (wrong < 4 && lens[wrong] == 0)
             continue;
+        if (wrong == 0)
+            count--;
         if (wrong < 4)
             lens[wrong]--;
         else
-            numbers[wrong - 4] += 100;
-        uint64_t number = yelansub_run(numbers[0], numbers[1], numbers[2], in(&s), lens[0], in(&w),
-                                       lens[1], in(&l), lens[2], in(&a), lens[3]);
-        HOLD(number == 11);
+            numbers[wrong - 4]++;
+        HOLD(yelansub_run(numbers[0], numbers[1], numbers[2], in(&s), lens[0], in(&w), lens[1], in(&l), lens[2],
+                          in(&a), lens[3]) == YELANSUB_BAD_SIZES);
+        HOLD(yelansub_run_records(numbers[0], numbers[1], numbers[2], record, count, in(&w), lens[1], in(&l),
+                                  lens[2], in(&a), lens[3]) == YELANSUB_BAD_SIZES);
         for (size_t i = 0; i < sizeof all / sizeof *all; i++)
             HOLD(unchanged(all[i]));
     }
     doing = "run";
-    HOLD(yelansub_run(cards, counters, log, in(&s), s.len, in(&w), len, in(&l), cards * log, in(&a), steps) == 0);
+    HOLD(yelansub_run(cards, counters, log, in(&s), s.len, in(&w), len, in(&l), cards * log, in(&a), steps) ==
+         YELANSUB_OK);
     HOLD(unchanged(&s) && only(&w, w.len) && only(&l, l.len) && only(&a, a.len));
     uint64_t *answers = in(&a);
-    for (size_t i = 0; i < steps; i++)
-        HOLD(answers[i] == 0 || answers[i] == 3 || answers[i] == 7 || (answers[i] >= 12 && answers[i] <= 14));
+    for (size_t i = 0; i < steps; i++) {
+        HOLD(answers[i] <= YELANSUB_LOG_FULL);
+        answered[answers[i]]++;
+    }
     doing = "run of records";
     struct area kept[] = {area(w.len, at_end), area(l.len, at_end), area(a.len, at_end)};
     HOLD(yelansub_run_records(cards, counters, log, record, steps, in(&kept[0]), len, in(&kept[1]),
-                              cards * log, in(&kept[2]), steps) == 0);
+                              cards * log, in(&kept[2]), steps) == YELANSUB_OK);
     HOLD(unchanged(&records));
     HOLD(memcmp(kept[0].pages, w.pages, w.size) == 0 && memcmp(kept[1].pages, l.pages, l.size) == 0);
     HOLD(memcmp(kept[2].pages, a.pages, a.size) == 0);
@@ -468,10 +666,39 @@ static void runs(unsigned cards, unsigned counters, uint64_t log, size_t steps, 
         drop(all[i]);
 }
 
+/* Cards and counters out of range, no steps, and words that would fit. */
+static void refused_sizes(uint64_t cards, uint64_t counters, int at_end)
+{
+    size_t len = cards * YELANSUB_REPLICA_WORDS(cards, counters);
+    struct area w = area(len * sizeof(uint64_t), at_end);
+    keep(&w);
+    doing = "run with sizes out of range";
+    HOLD(yelansub_run(cards, counters, 0, NULL, 0, in(&w), len, NULL, 0, NULL, 0) == YELANSUB_BAD_SIZES);
+    HOLD(yelansub_run_records(cards, counters, 0, NULL, 0, in(&w), len, NULL, 0, NULL, 0) == YELANSUB_BAD_SIZES);
+    HOLD(unchanged(&w));
+    drop(&w);
+}
+
+/* Every number that a step can give was given, and no other. YELANSUB_EXHAUSTED needs YELANSUB_MAX messages of one
+   card first. */
+static void all_answers(void)
+{
+    static const unsigned given[] = {YELANSUB_OK, YELANSUB_BAD_COUNTER, YELANSUB_BAD_CARD, YELANSUB_BAD_KIND,
+                                     YELANSUB_NOTHING_WAITING, YELANSUB_LOG_FULL};
+    doing = "answers of steps";
+    for (unsigned number = 0; number <= YELANSUB_LOG_FULL; number++) {
+        int can = 0;
+        for (size_t i = 0; i < sizeof given / sizeof *given; i++)
+            can |= given[i] == number;
+        HOLD((answered[number] > 0) == can);
+    }
+}
+
 int main(void)
 {
     no_memory();
     for (int at_end = 0; at_end < 2; at_end++) {
+        refused_heads(at_end);
         refusals(at_end);
         exact_messages(at_end);
         refused_messages(at_end);
@@ -483,8 +710,13 @@ int main(void)
         odd_bytes(at_end);
         for (unsigned round = 0; round < 300; round++)
             runs(1 + (unsigned)any(4), 1 + (unsigned)any(3), any(3) ? 400 : any(80), any(50), at_end);
-        runs(16, 64, 4096, 700, at_end);
+        runs(YELANSUB_MOST_CARDS, YELANSUB_MOST_COUNTERS, 4096, 700, at_end);
+        refused_sizes(0, 1, at_end);
+        refused_sizes(1, 0, at_end);
+        refused_sizes(YELANSUB_MOST_CARDS + 1, 1, at_end);
+        refused_sizes(1, YELANSUB_MOST_COUNTERS + 1, at_end);
     }
+    all_answers();
     printf("guards: %u checks\n", checks);
     return 0;
 }

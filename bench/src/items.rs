@@ -1,20 +1,21 @@
 //! What is timed: for each item the same work done by each side, on a state made once and put
-//! back before every batch. Chassis of 16 cards and 64 counters throughout.
+//! back before every batch. The largest chassis throughout.
 
 use std::hint::black_box;
 use std::ops::Range;
 
-use yelansub_reference::chassis::{self, Buffers, Step, STEP_BYTES};
+use yelansub_reference::chassis::{self, Buffers, Step};
 use yelansub_reference::differential::messages::form_of;
 use yelansub_reference::library;
-use yelansub_reference::message::{self, Body, Entries, Entry, Message, LONGEST};
+use yelansub_reference::limits::*;
+use yelansub_reference::message::{self, Body, Entries, Entry, Message};
 use yelansub_reference::random::Random;
-use yelansub_reference::replica::{self, words_of};
+use yelansub_reference::replica::{self, entry_at, increments_at, messages_at};
 
 use crate::rpcgen;
 
-const CARDS: usize = 16;
-const COUNTERS: usize = 64;
+pub const CARDS: usize = MOST_CARDS;
+pub const COUNTERS: usize = MOST_COUNTERS;
 /// Calls in a batch: one for each counter.
 pub const CALLS: u64 = COUNTERS as u64;
 const LOG_BYTES: usize = 1 << 16;
@@ -50,7 +51,7 @@ impl State {
 pub type Work = fn(&mut State);
 
 pub struct Item {
-    pub name: &'static str,
+    pub name: String,
     /// Calls, or steps, in one batch.
     pub calls: u64,
     /// A batch lasts long enough to be interrupted by other work of the machine.
@@ -60,9 +61,9 @@ pub struct Item {
     pub sides: Vec<(&'static str, Work)>,
 }
 
-fn item(name: &'static str, make: fn() -> State, library: Work, reference: Work) -> Item {
+fn item(name: &str, make: fn() -> State, library: Work, reference: Work) -> Item {
     Item {
-        name,
+        name: name.into(),
         calls: CALLS,
         long: false,
         make,
@@ -71,13 +72,17 @@ fn item(name: &'static str, make: fn() -> State, library: Work, reference: Work)
 }
 
 pub fn calls() -> Vec<Item> {
+    let all_hold = &format!("read, {CARDS} holders");
+    let clear_all = &format!("clear, {CARDS} entries");
+    let take_all = &format!("take a clear of {CARDS}");
+    let last = &format!("waiting, the {CALLS}th");
     vec![
         item("open", full, |s| each(s, library_open), |s| each(s, reference_open)),
-        item("read, 16 holders", full, |s| each(s, library_read), |s| each(s, reference_read)),
+        item(all_hold, full, |s| each(s, library_read), |s| each(s, reference_read)),
         item("read, no holder", empty, |s| each(s, library_read), |s| each(s, reference_read)),
         item("count, going on", full, |s| each(s, library_count), |s| each(s, reference_count)),
         item("count, start", empty, |s| each(s, library_count), |s| each(s, reference_count)),
-        item("clear, 16 entries", full, |s| each(s, library_clear), |s| each(s, reference_clear)),
+        item(clear_all, full, |s| each(s, library_clear), |s| each(s, reference_clear)),
         item("clear, no entry", empty, |s| each(s, library_clear), |s| each(s, reference_clear)),
         item(
             "take an increment",
@@ -85,21 +90,21 @@ pub fn calls() -> Vec<Item> {
             |s| each(s, library_take),
             |s| each(s, reference_take),
         ),
-        item("take a clear of 16", clears, |s| each(s, library_take), |s| each(s, reference_take)),
+        item(take_all, clears, |s| each(s, library_take), |s| each(s, reference_take)),
         item(
             "take, repeated (8)",
             repeated,
             |s| each(s, library_take),
             |s| each(s, reference_take),
         ),
-        item("waiting, the 64th", increments, library_waiting, reference_waiting),
+        item(last, increments, library_waiting, reference_waiting),
     ]
 }
 
 /// A message alone, from and to bytes.
 pub fn messages() -> Vec<Item> {
-    let read = |name, make| Item {
-        name,
+    let read = |name: &str, make| Item {
+        name: format!("message read: {name}"),
         calls: CALLS,
         long: false,
         make,
@@ -110,8 +115,8 @@ pub fn messages() -> Vec<Item> {
             ("rpcgen, allocating", |s: &mut State| each(s, rpcgen_read_allocating)),
         ],
     };
-    let write = |name, make| Item {
-        name,
+    let write = |name: &str, make| Item {
+        name: format!("message write: {name}"),
         calls: CALLS,
         long: false,
         make,
@@ -121,18 +126,19 @@ pub fn messages() -> Vec<Item> {
             ("rpcgen", |s: &mut State| each(s, rpcgen_write)),
         ],
     };
+    let clear = &format!("clear of {CARDS}");
     vec![
-        read("message read: increment", increments as fn() -> State),
-        read("message read: clear of 16", clears),
-        write("message write: increment", increments),
-        write("message write: clear of 16", clears),
+        read("increment", increments as fn() -> State),
+        read(clear, clears),
+        write("increment", increments),
+        write(clear, clears),
     ]
 }
 
 /// Runs of so many steps, and of none, which only writes the fresh replicas.
 pub fn runs() -> Vec<Item> {
-    let run = |name, calls, make| Item {
-        name,
+    let run = |name: &str, calls, make| Item {
+        name: name.into(),
         calls,
         long: true,
         make,
@@ -155,12 +161,12 @@ fn each(state: &mut State, call: fn(&mut State, usize)) {
 // States. Card 0's replica; card 1 is the sender.
 
 fn blank() -> State {
-    let mut words = vec![0; words_of(CARDS, COUNTERS)];
+    let mut words = vec![0; replica_words(CARDS, COUNTERS)];
     replica::open(&mut words, CARDS as u64, COUNTERS as u64, 0).expect("right sizes");
     State {
         kept: words.clone(),
         words,
-        out: vec![0; LONGEST],
+        out: vec![0; LONGEST_MESSAGE],
         bytes: Vec::new(),
         messages: Vec::new(),
         forms: Vec::new(),
@@ -175,8 +181,10 @@ fn blank() -> State {
 /// Every card has sent a thousand messages, half of them increments; no entries.
 fn empty() -> State {
     let mut state = blank();
-    state.kept[3..3 + CARDS].fill(500);
-    state.kept[3 + CARDS..3 + 2 * CARDS].fill(1_000);
+    for card in 0..CARDS {
+        state.kept[increments_at(card)] = 500;
+        state.kept[messages_at(CARDS, card)] = 1_000;
+    }
     state.put_back();
     state
 }
@@ -184,9 +192,10 @@ fn empty() -> State {
 /// The same with an entry for every card on every counter.
 fn full() -> State {
     let mut state = empty();
-    for (place, cell) in state.kept[3 + 2 * CARDS..].chunks_exact_mut(3).enumerate() {
-        let p = 100 + place as u64 % 7;
-        cell.copy_from_slice(&[p, p - 5, 400]);
+    for place in 0..CARDS * COUNTERS {
+        let (p, c) = (100 + place as u64 % 7, 400);
+        let at = entry_at(CARDS, place / CARDS, place % CARDS);
+        state.kept[at].copy_from_slice(&[p, p - 5, c]);
     }
     state.put_back();
     state
@@ -198,7 +207,7 @@ fn with_messages(body: fn(u64) -> Body) -> State {
         let sequence = 1_001 + counter as u64;
         let message =
             Message { sender: 1, sequence, counter: counter as u32, body: body(counter as u64) };
-        let mut out = [0; LONGEST];
+        let mut out = [0; LONGEST_MESSAGE];
         let length = message::write(&message, &mut out).expect("in range");
         state.bytes.push(out[..length].to_vec());
         state.logs.extend(&out[..length]);
@@ -231,7 +240,7 @@ fn clears() -> State {
 
 fn repeated() -> State {
     let mut state = increments();
-    state.kept[3 + CARDS + 1] = 5_000;
+    state.kept[messages_at(CARDS, 1)] = 5_000;
     state.put_back();
     state
 }
@@ -253,7 +262,7 @@ fn steps(len: usize) -> State {
         state.steps.extend(step.to_bytes());
     }
     state.part = 0..len * STEP_BYTES;
-    state.kept = vec![0; CARDS * words_of(CARDS, COUNTERS)];
+    state.kept = vec![0; CARDS * replica_words(CARDS, COUNTERS)];
     state.words = state.kept.clone();
     state.logs = vec![0; CARDS * LOG_BYTES];
     state.answers = vec![0; len];
@@ -385,7 +394,7 @@ pub fn messages_agree(state: &mut State) -> bool {
             state.out[..bytes.len()] == bytes[..]
         });
         let bytes = &state.bytes[counter];
-        let read = library::MessageReading { number: 0, message: state.forms[counter] };
+        let read = library::MessageReading { number: OK, message: state.forms[counter] };
         written
             && library::read_message(bytes) == read
             && rpcgen::read(bytes) == state.messages[counter].sequence

@@ -25,7 +25,8 @@ fn main() {
 
 fn everything() {
     check();
-    println!("Least of many rounds, nanoseconds a call, 16 cards and 64 counters.");
+    let (cards, counters) = (items::CARDS, items::COUNTERS);
+    println!("Least of many rounds, nanoseconds a call, {cards} cards and {counters} counters.");
     println!("Ratio: the library's time over the other side's; below 1 the library is faster.\n");
     for item in items::calls() {
         print(&item, &least(&item, 3_000));

@@ -14,7 +14,7 @@ static size_t write_message(yelansub_wire_message *message, uint8_t *out, size_t
 size_t rpcgen_write_increment(uint32_t sender, uint64_t sequence, uint32_t counter, uint64_t p,
                               uint32_t start, uint8_t *out, size_t len)
 {
-    yelansub_wire_message message = {.message_version = 1};
+    yelansub_wire_message message = {.message_version = YELANSUB_MESSAGE_VERSION};
     message.body.kind = YELANSUB_INCREMENT;
     message.body.yelansub_body_u.increment =
         (yelansub_increment){{sender, sequence, counter}, p, (bool_t)start};
@@ -24,7 +24,7 @@ size_t rpcgen_write_increment(uint32_t sender, uint64_t sequence, uint32_t count
 size_t rpcgen_write_clear(uint32_t sender, uint64_t sequence, uint32_t counter,
                           yelansub_entry *entries, size_t count, uint8_t *out, size_t len)
 {
-    yelansub_wire_message message = {.message_version = 1};
+    yelansub_wire_message message = {.message_version = YELANSUB_MESSAGE_VERSION};
     message.body.kind = YELANSUB_CLEAR;
     message.body.yelansub_body_u.clearing =
         (yelansub_clearing){{sender, sequence, counter}, {(u_int)count, entries}};
@@ -34,7 +34,7 @@ size_t rpcgen_write_clear(uint32_t sender, uint64_t sequence, uint32_t counter,
 /* Reads into memory kept by the caller, so that nothing is allocated: a sum of what was read. */
 uint64_t rpcgen_read(const uint8_t *bytes, size_t len)
 {
-    yelansub_entry entries[16];
+    yelansub_entry entries[YELANSUB_MOST_CARDS];
     yelansub_wire_message message;
     memset(&message, 0, sizeof message);
     /* Where the message is an increment, p and start are read over this. */

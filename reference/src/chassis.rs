@@ -3,13 +3,10 @@
 use core::ops::Range;
 
 use crate::limits::*;
-use crate::message;
-use crate::replica::{self, words_of};
+use crate::{message, replica};
 
-pub const STEP_BYTES: usize = 12;
-pub const COUNT: u32 = 1;
-pub const CLEAR: u32 = 2;
-pub const DELIVER: u32 = 3;
+/// Bytes of each number of a step.
+const INT: usize = 4;
 
 #[repr(C)]
 #[derive(Clone, Copy, Debug, PartialEq, Eq)]
@@ -21,29 +18,29 @@ pub struct Step {
 
 impl Step {
     pub const fn count(card: u32, counter: u32) -> Step {
-        Step { kind: COUNT, first: card, second: counter }
+        Step { kind: STEP_COUNT, first: card, second: counter }
     }
 
     pub const fn clear(card: u32, counter: u32) -> Step {
-        Step { kind: CLEAR, first: card, second: counter }
+        Step { kind: STEP_CLEAR, first: card, second: counter }
     }
 
     pub const fn deliver(receiver: u32, sender: u32) -> Step {
-        Step { kind: DELIVER, first: receiver, second: sender }
+        Step { kind: STEP_DELIVER, first: receiver, second: sender }
     }
 
     pub fn from_bytes(bytes: &[u8; STEP_BYTES]) -> Step {
-        let field = |at: usize| {
-            u32::from_be_bytes([bytes[at], bytes[at + 1], bytes[at + 2], bytes[at + 3]])
-        };
-        Step { kind: field(0), first: field(4), second: field(8) }
+        let fields = bytes.as_chunks::<INT>().0;
+        let field = |at: usize| u32::from_be_bytes(fields[at]);
+        Step { kind: field(0), first: field(1), second: field(2) }
     }
 
     pub fn to_bytes(self) -> [u8; STEP_BYTES] {
         let mut bytes = [0; STEP_BYTES];
-        bytes[..4].copy_from_slice(&self.kind.to_be_bytes());
-        bytes[4..8].copy_from_slice(&self.first.to_be_bytes());
-        bytes[8..].copy_from_slice(&self.second.to_be_bytes());
+        let fields = bytes.as_chunks_mut::<INT>().0;
+        for (place, field) in fields.iter_mut().zip([self.kind, self.first, self.second]) {
+            *place = field.to_be_bytes();
+        }
         bytes
     }
 }
@@ -97,33 +94,33 @@ fn run_each(
     steps: impl Iterator<Item = Step>,
     lent: Buffers,
 ) -> Result<(), u64> {
-    let limits = (1..=MAX_CARDS as u64).contains(&r) && (1..=MAX_COUNTERS as u64).contains(&k);
+    let limits = (1..=MOST_CARDS as u64).contains(&r) && (1..=MOST_COUNTERS as u64).contains(&k);
     if !limits {
         return Err(BAD_SIZES);
     }
     let (cards, counters) = (r as usize, k as usize);
-    let replica_words = words_of(cards, counters);
-    let sizes = lent.words.len() == cards * replica_words
+    let each = replica_words(cards, counters);
+    let sizes = lent.words.len() == cards * each
         && lent.logs.len() as u128 == u128::from(r) * u128::from(log_bytes)
         && lent.answers.len() == len;
     if !sizes {
         return Err(BAD_SIZES);
     }
-    for (card, words) in lent.words.chunks_exact_mut(replica_words).enumerate() {
+    for (card, words) in lent.words.chunks_exact_mut(each).enumerate() {
         replica::open(words, r, k, card as u64)?;
     }
     let mut chassis = Chassis {
         cards,
         counters,
-        replica_words,
+        each,
         log_bytes: log_bytes as usize,
         words: lent.words,
         logs: lent.logs,
-        used: [0; MAX_CARDS],
-        next: [[0; MAX_CARDS]; MAX_CARDS],
+        used: [0; MOST_CARDS],
+        next: [[0; MOST_CARDS]; MOST_CARDS],
     };
     for (step, answer) in steps.zip(lent.answers) {
-        *answer = chassis.step(step).err().unwrap_or(ACCEPTED);
+        *answer = chassis.step(step).err().unwrap_or(OK);
     }
     Ok(())
 }
@@ -131,22 +128,23 @@ fn run_each(
 struct Chassis<'a> {
     cards: usize,
     counters: usize,
-    replica_words: usize,
+    /// Words of each card's replica.
+    each: usize,
     log_bytes: usize,
     words: &'a mut [u64],
     logs: &'a mut [u8],
     /// Bytes of each card's log that hold its messages.
-    used: [usize; MAX_CARDS],
+    used: [usize; MOST_CARDS],
     /// For each receiver and sender, where in the sender's log its next message stands.
-    next: [[usize; MAX_CARDS]; MAX_CARDS],
+    next: [[usize; MOST_CARDS]; MOST_CARDS],
 }
 
 impl Chassis<'_> {
     fn step(&mut self, step: Step) -> Result<(), u64> {
         match step.kind {
-            COUNT => self.send(step, replica::count),
-            CLEAR => self.send(step, replica::clear),
-            DELIVER => self.deliver(step.first as usize, step.second as usize),
+            STEP_COUNT => self.send(step, replica::count),
+            STEP_CLEAR => self.send(step, replica::clear),
+            STEP_DELIVER => self.deliver(step.first as usize, step.second as usize),
             _ => Err(BAD_KIND),
         }
     }
@@ -163,7 +161,7 @@ impl Chassis<'_> {
         if step.second as usize >= self.counters {
             return Err(BAD_COUNTER);
         }
-        let words = &mut self.words[card * self.replica_words..][..self.replica_words];
+        let words = &mut self.words[card * self.each..][..self.each];
         let log = &mut self.logs[card * self.log_bytes..][..self.log_bytes];
         let out = &mut log[self.used[card]..];
         match call(words, u64::from(step.second), out) {
@@ -183,7 +181,7 @@ impl Chassis<'_> {
         let own_messages = &self.logs[sender * self.log_bytes..][..self.used[sender]];
         let from = self.next[receiver][sender];
         let message = message::read_front(&own_messages[from..]).ok_or(NOTHING_WAITING)?;
-        let words = &mut self.words[receiver * self.replica_words..][..self.replica_words];
+        let words = &mut self.words[receiver * self.each..][..self.each];
         replica::take_message(words, &message)?;
         self.next[receiver][sender] = from + message.length();
         Ok(())

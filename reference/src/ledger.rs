@@ -3,7 +3,8 @@
 
 use std::collections::{BTreeMap, BTreeSet, VecDeque};
 
-use crate::chassis::{Step, CLEAR, COUNT, DELIVER};
+use crate::chassis::Step;
+use crate::limits::{STEP_CLEAR, STEP_COUNT, STEP_DELIVER};
 
 /// A card's first, second, ... increment of the counter.
 pub type Name = (usize, u64);
@@ -77,19 +78,19 @@ impl Ledger {
             return Err(format!("{step:?} accepted for a card that is not there"));
         }
         match step.kind {
-            COUNT => {
+            STEP_COUNT => {
                 let message =
                     if second == self.counter { self.count(first) } else { Message::default() };
                 self.send(first, message);
                 Ok(())
             }
-            CLEAR => {
+            STEP_CLEAR => {
                 let message =
                     if second == self.counter { self.clear(first) } else { Message::default() };
                 self.send(first, message);
                 Ok(())
             }
-            DELIVER if second < self.cards.len() => {
+            STEP_DELIVER if second < self.cards.len() => {
                 let message = self.links[second][first].pop_front();
                 let message =
                     message.ok_or(format!("{step:?} accepted with nothing to hand over"))?;

@@ -3,8 +3,10 @@
 //! A slice goes over as pointer and length; an empty one as null and 0, which every export takes.
 //! Answers keep the shape of the C structs, number first.
 
+use core::mem::{align_of, offset_of, size_of};
+
 use crate::chassis::{Buffers, Step};
-use crate::limits::MAX_CARDS;
+use crate::limits::MOST_CARDS;
 use crate::message::Entry;
 
 #[repr(C)]
@@ -50,7 +52,7 @@ pub struct Message {
     pub p: u64,
     pub start: u32,
     pub len: usize,
-    pub entries: [Entry; MAX_CARDS],
+    pub entries: [Entry; MOST_CARDS],
 }
 
 #[repr(C)]
@@ -66,6 +68,34 @@ pub struct Written {
     pub number: u64,
     pub length: usize,
 }
+
+/// Holds a struct to a size, an alignment and the place of every field; one that is left out does
+/// not compile.
+macro_rules! laid_out {
+    ($name:ident, $size:expr, $align:expr, { $($field:ident: $at:expr),* }) => {
+        const _: () = {
+            assert!(size_of::<$name>() == $size && align_of::<$name>() == $align);
+            $(assert!(offset_of!($name, $field) == $at);)*
+            let _all = |whole: $name| {
+                let $name { $($field: _),* } = whole;
+            };
+        };
+    };
+}
+
+// The structs of include/yelansub.h on x86-64, System V; tests/layout.c holds C to these numbers.
+laid_out!(Reading, 32, 8, { number: 0, value: 8, holders: 16, holder_count: 24 });
+laid_out!(Sent, 24, 8, { number: 0, sequence: 8, length: 16 });
+laid_out!(Taken, 16, 8, { number: 0, sequence: 8 });
+laid_out!(Entry, 24, 8, { card: 0, p: 8, c: 16 });
+laid_out!(Message, 56 + 24 * MOST_CARDS, 8, {
+    version: 0, kind: 4, sender: 8, sequence: 16, counter: 24, p: 32, start: 40, len: 48,
+    entries: 56
+});
+laid_out!(MessageReading, 64 + 24 * MOST_CARDS, 8, { number: 0, message: 8 });
+laid_out!(Written, 16, 8, { number: 0, length: 8 });
+laid_out!(Span, 16, 8, { start: 0, length: 8 });
+laid_out!(Step, 12, 4, { kind: 0, first: 4, second: 8 });
 
 mod raw {
     use super::{Message, MessageReading, Reading, Sent, Span, Step, Taken, Written};

@@ -1,11 +1,43 @@
-//! Document 01's limits and refusal numbers.
+//! Document 01's limits, sizes and numbers, each in this one place of the Rust side and under its
+//! name in `include/yelansub.h`; `tests/header.rs` holds the two together. Where the words of a
+//! replica stand is in `replica`, the fields of a message in `message`.
 
-pub const MAX_CARDS: usize = 16;
-pub const MAX_COUNTERS: usize = 64;
-/// 2^48 - 1, the largest sequence and the largest count.
-pub const MAX: u64 = 281_474_976_710_655;
+/// Cards of a chassis, and entries of a clear.
+pub const MOST_CARDS: usize = 16;
+pub const MOST_COUNTERS: usize = 64;
+/// The largest sequence, and the most increments of one card.
+pub const MAX: u64 = (1 << 48) - 1;
 
-pub const ACCEPTED: u64 = 0;
+/// Words of a replica before those of its cards: r, k and the own card.
+pub const HEAD_WORDS: usize = 3;
+/// Words of an entry: p, n and c.
+pub const ENTRY_WORDS: usize = 3;
+
+/// Words of a replica: the head, C and N of every card, an entry of every card on every counter.
+pub const fn replica_words(cards: usize, counters: usize) -> usize {
+    HEAD_WORDS + 2 * cards + ENTRY_WORDS * cards * counters
+}
+
+pub const INCREMENT_BYTES: usize = 36;
+
+pub const fn clear_bytes(entries: usize) -> usize {
+    28 + 20 * entries
+}
+
+pub const LONGEST_MESSAGE: usize = clear_bytes(MOST_CARDS);
+
+pub const MESSAGE_VERSION: u32 = 1;
+pub const MESSAGE_INCREMENT: u32 = 1;
+pub const MESSAGE_CLEAR: u32 = 2;
+
+/// Bytes of one step of a run.
+pub const STEP_BYTES: usize = 12;
+pub const STEP_COUNT: u32 = 1;
+pub const STEP_CLEAR: u32 = 2;
+pub const STEP_DELIVER: u32 = 3;
+pub const STEP_KINDS: [u32; 3] = [STEP_COUNT, STEP_CLEAR, STEP_DELIVER];
+
+pub const OK: u64 = 0;
 /// Replica length, r, k or own card wrong.
 pub const BAD_REPLICA: u64 = 1;
 /// The counter's row is not well-formed.
@@ -27,7 +59,7 @@ pub const EARLY: u64 = 9;
 pub const IMPLAUSIBLE: u64 = 10;
 /// Chassis sizes wrong.
 pub const BAD_SIZES: u64 = 11;
-/// Step kind not 1, 2 or 3.
+/// Step kind not one of `STEP_KINDS`.
 pub const BAD_KIND: u64 = 12;
 pub const NOTHING_WAITING: u64 = 13;
 /// Log too short for the message.

@@ -2,30 +2,34 @@
 
 use std::fmt::Write;
 
-use crate::chassis::{self, Buffers, STEP_BYTES};
-use crate::replica::{self, words_of};
+use crate::chassis::{self, Buffers};
+use crate::limits::{replica_words, BAD_SIZES, STEP_BYTES};
+use crate::replica;
 
-pub const MAX_CARDS: u32 = 4;
-pub const MAX_COUNTERS: u32 = 8;
-pub const MAX_STEPS: usize = 256;
+// The program's own limits, below those of the library.
+pub const MOST_CARDS: u32 = 4;
+pub const MOST_COUNTERS: u32 = 8;
+pub const MOST_STEPS: usize = 256;
 pub const LOG_BYTES: usize = 4096;
+/// Bytes of r and k, which the steps follow.
+pub const SIZES_BYTES: usize = 8;
 /// No right input is longer.
-pub const LONGEST_INPUT: usize = 8 + MAX_STEPS * STEP_BYTES;
+pub const LONGEST_INPUT: usize = SIZES_BYTES + MOST_STEPS * STEP_BYTES;
 
 /// The text for an input of r, k and steps.
 pub fn listing(input: &[u8]) -> String {
-    lines(input).unwrap_or_else(|| "refused,11\r\n".to_string())
+    lines(input).unwrap_or_else(|| format!("refused,{BAD_SIZES}\r\n"))
 }
 
 fn lines(input: &[u8]) -> Option<String> {
-    let (r, rest) = input.split_first_chunk::<4>()?;
-    let (k, steps) = rest.split_first_chunk::<4>()?;
-    let (r, k) = (u32::from_be_bytes(*r), u32::from_be_bytes(*k));
-    if r > MAX_CARDS || k > MAX_COUNTERS || steps.len() > MAX_STEPS * STEP_BYTES {
+    let (sizes, steps) = input.split_first_chunk::<SIZES_BYTES>()?;
+    let size = |at: usize| u32::from_be_bytes(sizes.as_chunks().0[at]);
+    let (r, k) = (size(0), size(1));
+    if r > MOST_CARDS || k > MOST_COUNTERS || steps.len() > MOST_STEPS * STEP_BYTES {
         return None;
     }
     let (cards, counters) = (r as usize, k as usize);
-    let each = words_of(cards, counters);
+    let each = replica_words(cards, counters);
     let mut words = vec![0; cards * each];
     let mut logs = vec![0; cards * LOG_BYTES];
     let mut answers = vec![0; steps.len() / STEP_BYTES];

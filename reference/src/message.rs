@@ -1,16 +1,24 @@
 //! Document 01, 'Message': big-endian, every field in range, the length exact.
 
-use crate::limits::{MAX, MAX_CARDS, MAX_COUNTERS, SHORT_OUTPUT, UNREADABLE};
+use crate::limits::*;
 
-pub const VERSION: u32 = 1;
-pub const KIND_INCREMENT: u32 = 1;
-pub const KIND_CLEAR: u32 = 2;
-/// Version, kind, sender, sequence and counter.
+// Where the fields of the header stand, and where it ends.
+const VERSION_AT: usize = 0;
+const KIND_AT: usize = 4;
+const SENDER_AT: usize = 8;
+const SEQUENCE_AT: usize = 12;
+const COUNTER_AT: usize = 20;
 const HEADER_BYTES: usize = 24;
-pub const INCREMENT_BYTES: usize = 36;
-pub const EMPTY_CLEAR_BYTES: usize = 28;
-pub const ENTRY_BYTES: usize = 20;
-pub const LONGEST: usize = EMPTY_CLEAR_BYTES + ENTRY_BYTES * MAX_CARDS;
+
+// Behind the header of an increment.
+const P_AT: usize = 0;
+const START_AT: usize = 8;
+
+// In an entry of a clear. The entries follow a word that counts them.
+const ENTRY_CARD_AT: usize = 0;
+const ENTRY_P_AT: usize = 4;
+const ENTRY_C_AT: usize = 12;
+const ENTRY_BYTES: usize = clear_bytes(1) - clear_bytes(0);
 
 #[repr(C)]
 #[derive(Clone, Copy, Debug, Default, PartialEq, Eq)]
@@ -20,19 +28,19 @@ pub struct Entry {
     pub c: u64,
 }
 
-/// A clear's entries: at most sixteen, in order of card.
+/// A clear's entries: at most one for each card, in order of card.
 #[derive(Clone, Copy, Debug)]
 pub struct Entries {
-    list: [Entry; MAX_CARDS],
+    list: [Entry; MOST_CARDS],
     len: usize,
 }
 
 impl Entries {
     pub fn new() -> Self {
-        Entries { list: [Entry::default(); MAX_CARDS], len: 0 }
+        Entries { list: [Entry::default(); MOST_CARDS], len: 0 }
     }
 
-    /// Panics at the seventeenth entry.
+    /// Panics at more than `MOST_CARDS` entries.
     pub fn push(&mut self, entry: Entry) {
         self.list[self.len] = entry;
         self.len += 1;
@@ -74,7 +82,7 @@ impl Message {
     pub fn length(&self) -> usize {
         match &self.body {
             Body::Increment { .. } => INCREMENT_BYTES,
-            Body::Clear(entries) => EMPTY_CLEAR_BYTES + ENTRY_BYTES * entries.len,
+            Body::Clear(entries) => clear_bytes(entries.len),
         }
     }
 
@@ -88,7 +96,7 @@ impl Message {
 }
 
 fn header_in_range(sender: u32, sequence: u64, counter: u32) -> bool {
-    (sender as usize) < MAX_CARDS && positive(sequence) && (counter as usize) < MAX_COUNTERS
+    (sender as usize) < MOST_CARDS && positive(sequence) && (counter as usize) < MOST_COUNTERS
 }
 
 fn entries_in_range(list: &[Entry]) -> bool {
@@ -100,7 +108,7 @@ fn positive(number: u64) -> bool {
 }
 
 fn entry_in_range(entry: &Entry) -> bool {
-    (entry.card as usize) < MAX_CARDS && 1 <= entry.p && entry.p <= entry.c && entry.c <= MAX
+    (entry.card as usize) < MOST_CARDS && 1 <= entry.p && entry.p <= entry.c && entry.c <= MAX
 }
 
 fn int(bytes: &[u8], at: usize) -> u32 {
@@ -124,33 +132,35 @@ pub fn read(bytes: &[u8]) -> Option<Message> {
 #[inline]
 fn read_if(bytes: &[u8], fits: impl Fn(usize) -> bool) -> Option<Message> {
     let (head, rest) = bytes.split_first_chunk::<HEADER_BYTES>()?;
-    let (sender, sequence, counter) = (int(head, 8), hyper(head, 12), int(head, 20));
-    if int(head, 0) != VERSION || !header_in_range(sender, sequence, counter) {
+    let sender = int(head, SENDER_AT);
+    let sequence = hyper(head, SEQUENCE_AT);
+    let counter = int(head, COUNTER_AT);
+    if int(head, VERSION_AT) != MESSAGE_VERSION || !header_in_range(sender, sequence, counter) {
         return None;
     }
-    match int(head, 4) {
-        KIND_INCREMENT if fits(INCREMENT_BYTES) => {
+    match int(head, KIND_AT) {
+        MESSAGE_INCREMENT if fits(INCREMENT_BYTES) => {
             let fields = rest.first_chunk::<{ INCREMENT_BYTES - HEADER_BYTES }>()?;
-            let (p, start) = (hyper(fields, 0), int(fields, 8));
+            let (p, start) = (hyper(fields, P_AT), int(fields, START_AT));
             if !positive(p) || start > 1 {
                 return None;
             }
             let body = Body::Increment { p, start: start == 1 };
             Some(Message { sender, sequence, counter, body })
         }
-        KIND_CLEAR => {
+        MESSAGE_CLEAR => {
             let (count, rest) = rest.split_first_chunk::<4>()?;
             let count = u32::from_be_bytes(*count) as usize;
-            if count > MAX_CARDS || !fits(EMPTY_CLEAR_BYTES + ENTRY_BYTES * count) {
+            if count > MOST_CARDS || !fits(clear_bytes(count)) {
                 return None;
             }
             let list = rest.get(..count * ENTRY_BYTES)?.as_chunks::<ENTRY_BYTES>().0;
             let mut entries = Entries::new();
             for fields in list {
                 entries.push(Entry {
-                    card: int(fields, 0),
-                    p: hyper(fields, 4),
-                    c: hyper(fields, 12),
+                    card: int(fields, ENTRY_CARD_AT),
+                    p: hyper(fields, ENTRY_P_AT),
+                    c: hyper(fields, ENTRY_C_AT),
                 });
             }
             if !entries_in_range(entries.as_slice()) {
@@ -170,24 +180,25 @@ pub fn write(message: &Message, out: &mut [u8]) -> Result<usize, u64> {
     let length = message.length();
     let out = out.get_mut(..length).ok_or(SHORT_OUTPUT)?;
     let (head, rest) = out.split_first_chunk_mut::<HEADER_BYTES>().expect("longer than that");
-    set_int(head, 0, VERSION);
-    set_int(head, 8, message.sender);
-    set_hyper(head, 12, message.sequence);
-    set_int(head, 20, message.counter);
+    set_int(head, VERSION_AT, MESSAGE_VERSION);
+    set_int(head, SENDER_AT, message.sender);
+    set_hyper(head, SEQUENCE_AT, message.sequence);
+    set_int(head, COUNTER_AT, message.counter);
     match &message.body {
         Body::Increment { p, start } => {
-            set_int(head, 4, KIND_INCREMENT);
-            set_hyper(rest, 0, *p);
-            set_int(rest, 8, u32::from(*start));
+            set_int(head, KIND_AT, MESSAGE_INCREMENT);
+            set_hyper(rest, P_AT, *p);
+            set_int(rest, START_AT, u32::from(*start));
         }
         Body::Clear(entries) => {
-            set_int(head, 4, KIND_CLEAR);
-            set_int(rest, 0, entries.len as u32);
-            let places = rest[4..].as_chunks_mut::<ENTRY_BYTES>().0;
+            set_int(head, KIND_AT, MESSAGE_CLEAR);
+            let (count, rest) = rest.split_at_mut(4);
+            set_int(count, 0, entries.len as u32);
+            let places = rest.as_chunks_mut::<ENTRY_BYTES>().0;
             for (place, entry) in places.iter_mut().zip(entries.as_slice()) {
-                set_int(place, 0, entry.card);
-                set_hyper(place, 4, entry.p);
-                set_hyper(place, 12, entry.c);
+                set_int(place, ENTRY_CARD_AT, entry.card);
+                set_hyper(place, ENTRY_P_AT, entry.p);
+                set_hyper(place, ENTRY_C_AT, entry.c);
             }
         }
     }

@@ -2,14 +2,32 @@
 //!
 //! The words: r, k, own card; C[j]; N[j]; then, counter by counter, (p, n, c) for each card.
 
+use core::ops::Range;
+
 use crate::limits::*;
 use crate::message::{self, Body, Entries, Entry, Message};
 
-const HEADER: usize = 3;
+/// Where r stands among the words,
+pub const CARDS_AT: usize = 0;
+/// k,
+pub const COUNTERS_AT: usize = 1;
+/// the own card,
+pub const OWN_AT: usize = 2;
 
-/// Words of a replica, for r and k in range.
-pub const fn words_of(cards: usize, counters: usize) -> usize {
-    HEADER + 2 * cards + 3 * cards * counters
+/// C of a card,
+pub const fn increments_at(card: usize) -> usize {
+    HEAD_WORDS + card
+}
+
+/// N of a card,
+pub const fn messages_at(cards: usize, card: usize) -> usize {
+    HEAD_WORDS + cards + card
+}
+
+/// and a card's entry of a counter: p, n and c.
+pub const fn entry_at(cards: usize, counter: usize, card: usize) -> Range<usize> {
+    let row = replica_words(cards, counter);
+    row + ENTRY_WORDS * card..row + ENTRY_WORDS * (card + 1)
 }
 
 #[derive(Clone, Copy, Debug, Default, PartialEq, Eq)]
@@ -36,6 +54,14 @@ struct Cell {
 impl Cell {
     const ABSENT: Cell = Cell { p: 0, n: 0, c: 0 };
 
+    fn of(words: &[u64]) -> Cell {
+        Cell { p: words[0], n: words[1], c: words[2] }
+    }
+
+    fn words(self) -> [u64; ENTRY_WORDS] {
+        [self.p, self.n, self.c]
+    }
+
     fn is_absent(self) -> bool {
         self == Cell::ABSENT
     }
@@ -59,20 +85,18 @@ struct Shape {
 
 impl Shape {
     fn new(words: usize, cards: u64, counters: u64, own: u64) -> Result<Shape, u64> {
-        let limits = (1..=MAX_CARDS as u64).contains(&cards)
-            && (1..=MAX_COUNTERS as u64).contains(&counters)
+        let limits = (1..=MOST_CARDS as u64).contains(&cards)
+            && (1..=MOST_COUNTERS as u64).contains(&counters)
             && own < cards;
-        if !limits || words != words_of(cards as usize, counters as usize) {
+        if !limits || words != replica_words(cards as usize, counters as usize) {
             return Err(BAD_REPLICA);
         }
         Ok(Shape { cards: cards as usize, counters: counters as usize, own: own as usize })
     }
 
     fn of(words: &[u64]) -> Result<Shape, u64> {
-        match words {
-            [cards, counters, own, ..] => Shape::new(words.len(), *cards, *counters, *own),
-            _ => Err(BAD_REPLICA),
-        }
+        let head = words.first_chunk::<HEAD_WORDS>().ok_or(BAD_REPLICA)?;
+        Shape::new(words.len(), head[CARDS_AT], head[COUNTERS_AT], head[OWN_AT])
     }
 
     fn counter(self, counter: u64) -> Result<usize, u64> {
@@ -95,18 +119,18 @@ struct Row<'a> {
 impl<'a> Row<'a> {
     fn of(words: &'a [u64], shape: Shape, counter: usize) -> Row<'a> {
         let r = shape.cards;
-        let (increments, rest) = words[HEADER..].split_at(r);
+        let (increments, rest) = words[HEAD_WORDS..].split_at(r);
         let (messages, rows) = rest.split_at(r);
-        Row { own: shape.own, increments, messages, cells: &rows[3 * r * counter..][..3 * r] }
+        let cells = &rows[ENTRY_WORDS * r * counter..][..ENTRY_WORDS * r];
+        Row { own: shape.own, increments, messages, cells }
     }
 
     fn cells(&self) -> impl Iterator<Item = Cell> + '_ {
-        self.cells.chunks_exact(3).map(|w| Cell { p: w[0], n: w[1], c: w[2] })
+        self.cells.chunks_exact(ENTRY_WORDS).map(Cell::of)
     }
 
     fn cell(&self, card: usize) -> Cell {
-        let w = &self.cells[3 * card..][..3];
-        Cell { p: w[0], n: w[1], c: w[2] }
+        Cell::of(&self.cells[ENTRY_WORDS * card..][..ENTRY_WORDS])
     }
 
     fn check(self) -> Result<Row<'a>, u64> {
@@ -122,14 +146,16 @@ impl<'a> Row<'a> {
 
 /// N of the sender, in words that are a replica.
 pub fn received_from(words: &[u64], sender: usize) -> u64 {
-    words[HEADER + words[0] as usize + sender]
+    words[messages_at(words[CARDS_AT] as usize, sender)]
 }
 
 /// Writes a fresh replica; only refused with 1.
 pub fn open(words: &mut [u64], cards: u64, counters: u64, own: u64) -> Result<(), u64> {
     Shape::new(words.len(), cards, counters, own)?;
     words.fill(0);
-    words[..HEADER].copy_from_slice(&[cards, counters, own]);
+    words[CARDS_AT] = cards;
+    words[COUNTERS_AT] = counters;
+    words[OWN_AT] = own;
     Ok(())
 }
 
@@ -261,9 +287,9 @@ fn plausible(message: &Message, row: &Row) -> bool {
 fn apply(words: &mut [u64], shape: Shape, message: &Message) {
     let r = shape.cards;
     let sender = message.sender as usize;
-    let (increments, rest) = words[HEADER..].split_at_mut(r);
+    let (increments, rest) = words[HEAD_WORDS..].split_at_mut(r);
     let (messages, rows) = rest.split_at_mut(r);
-    let cells = &mut rows[3 * r * message.counter as usize..][..3 * r];
+    let cells = &mut rows[ENTRY_WORDS * r * message.counter as usize..][..ENTRY_WORDS * r];
     match &message.body {
         Body::Increment { p, start } => {
             let c = increments[sender] + 1;
@@ -281,9 +307,8 @@ fn apply(words: &mut [u64], shape: Shape, message: &Message) {
 }
 
 fn update(cells: &mut [u64], card: usize, next: impl FnOnce(Cell) -> Cell) {
-    let place = &mut cells[3 * card..][..3];
-    let cell = next(Cell { p: place[0], n: place[1], c: place[2] });
-    place.copy_from_slice(&[cell.p, cell.n, cell.c]);
+    let place = &mut cells[ENTRY_WORDS * card..][..ENTRY_WORDS];
+    place.copy_from_slice(&next(Cell::of(place)).words());
 }
 
 /// "Increment from j": Algorithm 1, lines 17 to 25.

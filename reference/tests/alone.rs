@@ -5,6 +5,7 @@ use yelansub_reference::chassis::Step;
 use yelansub_reference::differential::alone::{self, List};
 use yelansub_reference::differential::{self, Tally};
 use yelansub_reference::library::Reading;
+use yelansub_reference::limits::*;
 use yelansub_reference::random::Random;
 
 #[test]
@@ -19,8 +20,8 @@ fn every_counter_alone_is_accepted_and_reads_the_same() {
 fn counters_share_a_log_and_what_was_accepted_stands_alone() {
     // Room for two increments: counter 1 leaves none for counter 0's second count, and card 1's
     // clear of counter 0 none for that of counter 1.
-    let list =
-        |steps: &[Step]| List { cards: 2, counters: 2, log_bytes: 72, steps: steps.to_vec() };
+    let log_bytes = 2 * INCREMENT_BYTES;
+    let list = |steps: &[Step]| List { cards: 2, counters: 2, log_bytes, steps: steps.to_vec() };
     let both = list(&[
         Step::count(0, 0),
         Step::count(0, 1),
@@ -33,13 +34,13 @@ fn counters_share_a_log_and_what_was_accepted_stands_alone() {
     ]);
     let random = &mut Random::new(1);
     let after = both.run(random);
-    assert_eq!(after.answers, [0, 0, 14, 0, 0, 0, 13, 14]);
+    assert_eq!(after.answers, [OK, OK, LOG_FULL, OK, OK, OK, NOTHING_WAITING, LOG_FULL]);
 
     // So a list without counter 1 is answered otherwise, and read otherwise.
     let count_twice = [Step::count(0, 0), Step::count(0, 0), Step::deliver(1, 0)];
     let without = list(&[&count_twice[..], &[Step::clear(1, 0)]].concat());
     let after_without = without.run(random);
-    assert_eq!(after_without.answers, [0, 0, 0, 0]);
+    assert_eq!(after_without.answers, [OK; 4]);
     assert_eq!(values(&without.reads(&after_without, 0)), [2, 0]);
     assert_eq!(values(&both.reads(&after, 0)), [1, 0]);
 

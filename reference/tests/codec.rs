@@ -1,9 +1,11 @@
 //! The reference's own reader and writer: the round trips that the library's wire proves.
 
 use yelansub_reference::differential::generate;
-use yelansub_reference::limits::MAX;
-use yelansub_reference::message::{self, Body, Entries, Entry, Message, LONGEST};
+use yelansub_reference::limits::*;
+use yelansub_reference::message::{self, Body, Entries, Entry, Message};
 use yelansub_reference::random::Random;
+
+const CARDS: u32 = MOST_CARDS as u32;
 
 #[test]
 fn bytes_that_read_are_the_bytes_written() {
@@ -18,7 +20,7 @@ fn bytes_that_read_are_the_bytes_written() {
         }
         if let Some(message) = message::read(&bytes) {
             read += 1;
-            let mut out = [0; LONGEST];
+            let mut out = [0; LONGEST_MESSAGE];
             let length = message::write(&message, &mut out).expect("room for every message");
             assert_eq!(out[..length], bytes, "seed {seed} case {case}");
             bytes.extend([1; 5]);
@@ -44,13 +46,13 @@ fn a_message_out_of_range_is_not_written() {
         Message { body: Body::Clear(entries), ..right }
     };
     let wrong = [
-        Message { sender: 16, ..right },
+        Message { sender: CARDS, ..right },
         Message { sequence: 0, ..right },
         Message { sequence: MAX + 1, ..right },
-        Message { counter: 64, ..right },
+        Message { counter: MOST_COUNTERS as u32, ..right },
         Message { body: Body::Increment { p: 0, start: true }, ..right },
         Message { body: Body::Increment { p: MAX + 1, start: true }, ..right },
-        clear(&[(16, 1, 1)]),
+        clear(&[(CARDS, 1, 1)]),
         clear(&[(1, 0, 1)]),
         clear(&[(1, 2, 1)]),
         clear(&[(1, 1, MAX + 1)]),
@@ -58,14 +60,17 @@ fn a_message_out_of_range_is_not_written() {
         clear(&[(2, 1, 1), (1, 1, 1)]),
     ];
     for message in wrong {
-        let mut out = [9; LONGEST];
-        assert_eq!(message::write(&message, &mut out), Err(6), "{message:?}");
-        assert_eq!(message::write(&message, &mut []), Err(6), "6 comes before 5");
-        assert_eq!(out, [9; LONGEST]);
+        let mut out = [9; LONGEST_MESSAGE];
+        assert_eq!(message::write(&message, &mut out), Err(UNREADABLE), "{message:?}");
+        assert_eq!(message::write(&message, &mut []), Err(UNREADABLE), "6 comes before 5");
+        assert_eq!(out, [9; LONGEST_MESSAGE]);
     }
-    let mut out = [9; 36];
-    assert_eq!(message::write(&right, &mut out[..35]), Err(5));
-    assert_eq!(out, [9; 36]);
-    assert_eq!(message::write(&right, &mut out), Ok(36));
-    assert_eq!(message::write(&clear(&[(0, 1, 1), (15, 1, MAX)]), &mut [0; 68]), Ok(68));
+    let mut out = [9; INCREMENT_BYTES];
+    assert_eq!(message::write(&right, &mut out[1..]), Err(SHORT_OUTPUT));
+    assert_eq!(out, [9; INCREMENT_BYTES]);
+    assert_eq!(message::write(&right, &mut out), Ok(INCREMENT_BYTES));
+    let mut out = [9; clear_bytes(2)];
+    let last = clear(&[(0, 1, 1), (CARDS - 1, MAX, MAX)]);
+    assert_eq!(message::write(&last, &mut out[1..]), Err(SHORT_OUTPUT));
+    assert_eq!(message::write(&last, &mut out), Ok(clear_bytes(2)));
 }

@@ -12,11 +12,7 @@ fn random_calls_give_the_same_answers_words_and_bytes() {
     let (seed, cases) = (seed(), 400_000);
     let tally = calls::random_calls(seed, cases);
     println!("{cases} replicas from seed {seed}\n{tally}");
-    tally.require("open", calls::OPEN);
-    tally.require("read", calls::READ);
-    tally.require("count", calls::SEND);
-    tally.require("clear", calls::SEND);
-    tally.require("take", calls::TAKE);
+    calls::require_all(&tally);
 }
 
 #[test]
@@ -24,9 +20,7 @@ fn random_runs_agree_with_the_reference_and_the_ledger() {
     let (seed, cases) = (seed(), 60_000);
     let tally = runs::random_runs(seed, cases, 60);
     println!("{cases} runs from seed {seed}\n{tally}");
-    tally.require("run", runs::RUN);
-    tally.require("records", runs::RUN);
-    tally.require("step", runs::STEP);
+    runs::require_all(&tally);
 }
 
 #[test]
@@ -34,6 +28,7 @@ fn longer_random_runs_agree() {
     let (seed, cases) = (seed() + 1, 300);
     let tally = runs::random_runs(seed, cases, 1_000);
     println!("{cases} longer runs from seed {seed}\n{tally}");
+    runs::require_all(&tally);
 }
 
 #[test]
@@ -41,19 +36,19 @@ fn random_messages_read_and_write_the_same() {
     let (seed, cases) = (seed(), 400_000);
     let tally = messages::random_messages(seed, cases);
     println!("{cases} messages from seed {seed}\n{tally}");
-    tally.require("read_message", messages::READ);
-    tally.require("write_message", messages::WRITE);
+    messages::require_all(&tally);
 }
 
 #[test]
 fn every_field_of_a_message_at_every_edge() {
-    let tally = messages::every_field_at_every_edge();
-    println!("{tally}");
-    for (name, _) in messages::FIELDS {
-        tally.require(name, messages::FIELD);
-    }
-    for (name, _) in messages::ENTRY_FIELDS {
-        tally.require(name, messages::FIELD);
+    for tally in messages::every_field_at_every_edge() {
+        println!("{tally}");
+        for (name, _) in messages::FIELDS {
+            tally.require(name, messages::FIELD);
+        }
+        for (name, _) in messages::ENTRY_FIELDS {
+            tally.require(name, messages::FIELD);
+        }
     }
 }
 
@@ -62,7 +57,7 @@ fn waiting_agrees_on_good_and_damaged_logs() {
     let (seed, cases) = (seed(), 60_000);
     let tally = logs::random_logs(seed, cases);
     println!("{cases} logs from seed {seed}\n{tally}");
-    tally.require("waiting", logs::WAITING);
+    logs::require_all(&tally);
 }
 
 #[test]

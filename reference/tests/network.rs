@@ -3,7 +3,7 @@
 
 use yelansub_reference::differential::{self, network};
 use yelansub_reference::library::{count, open, read, take};
-use yelansub_reference::replica::words_of;
+use yelansub_reference::limits::*;
 
 #[test]
 fn histories_over_a_network_that_loses_repeats_reorders_and_damages() {
@@ -16,15 +16,15 @@ fn histories_over_a_network_that_loses_repeats_reorders_and_damages() {
 /// Two cards and one counter.
 fn opened() -> [Vec<u64>; 2] {
     [0, 1].map(|card| {
-        let mut words = vec![9; words_of(2, 1)];
-        assert_eq!(open(&mut words, 2, 1, card), 0);
+        let mut words = vec![9; replica_words(2, 1)];
+        assert_eq!(open(&mut words, 2, 1, card), OK);
         words
     })
 }
 
-fn counted(words: &mut [u64]) -> [u8; 36] {
-    let mut message = [0; 36];
-    assert_eq!(count(words, 0, &mut message).number, 0);
+fn counted(words: &mut [u64]) -> [u8; INCREMENT_BYTES] {
+    let mut message = [0; INCREMENT_BYTES];
+    assert_eq!(count(words, 0, &mut message).number, OK);
     message
 }
 
@@ -34,10 +34,10 @@ fn a_forged_message_counts() {
     let [mut first, mut second] = opened();
     let [_, mut elsewhere] = opened();
     let forged = counted(&mut elsewhere);
-    assert_eq!(take(&mut first, &forged).number, 0);
+    assert_eq!(take(&mut first, &forged).number, OK);
     assert_eq!((read(&first, 0).value, read(&second, 0).value), (1, 0));
     let message = counted(&mut second);
-    assert_eq!(take(&mut first, &message).number, 8);
+    assert_eq!(take(&mut first, &message).number, REPEATED);
 }
 
 /// Why a card is opened once: what it writes after a second time is taken for repeated.
@@ -46,10 +46,10 @@ fn a_card_opened_again_is_not_heard() {
     let [mut first, mut second] = opened();
     for _ in 0..2 {
         let message = counted(&mut first);
-        assert_eq!(take(&mut second, &message).number, 0);
+        assert_eq!(take(&mut second, &message).number, OK);
     }
-    assert_eq!(open(&mut first, 2, 1, 0), 0);
+    assert_eq!(open(&mut first, 2, 1, 0), OK);
     let message = counted(&mut first);
-    assert_eq!(take(&mut second, &message).number, 8);
+    assert_eq!(take(&mut second, &message).number, REPEATED);
     assert_eq!((read(&first, 0).value, read(&second, 0).value), (1, 2));
 }

@@ -1,11 +1,26 @@
 //! Document 01's orders from the bench, by name, through the library's calls and runs.
 
 use yelansub_reference::chassis::{self, Buffers, Step};
+use yelansub_reference::differential::generate::Draft;
 use yelansub_reference::library;
+use yelansub_reference::limits::*;
 use yelansub_reference::listing::listing;
-use yelansub_reference::replica::words_of;
+use yelansub_reference::replica::{entry_at, increments_at, messages_at};
 
 const LOG_BYTES: usize = 4096;
+
+const fn count(card: u32, counter: u32) -> Step {
+    Step::count(card, counter)
+}
+
+const fn clear(card: u32, counter: u32) -> Step {
+    Step::clear(card, counter)
+}
+
+/// To the first card, from the second.
+const fn deliver(receiver: u32, sender: u32) -> Step {
+    Step::deliver(receiver, sender)
+}
 
 /// Every card's words after a run in which each step was accepted.
 struct After {
@@ -14,12 +29,10 @@ struct After {
     words: Vec<u64>,
 }
 
-fn after(cards: usize, counters: usize, list: &[(u32, u32, u32)]) -> After {
-    let steps: Vec<Step> =
-        list.iter().map(|s| Step { kind: s.0, first: s.1, second: s.2 }).collect();
+fn after(cards: usize, counters: usize, steps: &[Step]) -> After {
     let bytes: Vec<u8> = steps.iter().flat_map(|step| step.to_bytes()).collect();
     let (r, k) = (cards as u64, counters as u64);
-    let mut words = vec![9; cards * words_of(cards, counters)];
+    let mut words = vec![9; cards * replica_words(cards, counters)];
     let mut logs = vec![9; cards * LOG_BYTES];
     let mut answers = vec![9; steps.len()];
     let (mut our_words, mut our_logs, mut our_answers) =
@@ -27,51 +40,57 @@ fn after(cards: usize, counters: usize, list: &[(u32, u32, u32)]) -> After {
     let lent = Buffers { words: &mut our_words, logs: &mut our_logs, answers: &mut our_answers };
     chassis::run(r, k, LOG_BYTES as u64, &bytes, lent).unwrap();
     let lent = Buffers { words: &mut words, logs: &mut logs, answers: &mut answers };
-    assert_eq!(library::run(r, k, LOG_BYTES as u64, &bytes, lent), 0);
-    assert!(answers.iter().all(|answer| *answer == 0), "{answers:?}");
+    assert_eq!(library::run(r, k, LOG_BYTES as u64, &bytes, lent), OK);
+    assert!(answers.iter().all(|answer| *answer == OK), "{answers:?}");
     assert!(words == our_words && logs == our_logs && answers == our_answers);
     After { cards, counters, words }
 }
 
 impl After {
     fn replica(&self, card: usize) -> &[u64] {
-        let each = words_of(self.cards, self.counters);
+        let each = replica_words(self.cards, self.counters);
         &self.words[card * each..][..each]
     }
 
-    /// The entry that `card` keeps for card `of` on `counter`.
-    fn entry(&self, card: usize, counter: usize, of: usize) -> (u64, u64, u64) {
-        let at = 3 + 2 * self.cards + 3 * (self.cards * counter + of);
-        let words = &self.replica(card)[at..];
-        (words[0], words[1], words[2])
+    /// The entry that `card` keeps for card `of` on `counter`: p, n and c.
+    fn entry(&self, card: usize, counter: usize, of: usize) -> [u64; ENTRY_WORDS] {
+        let words = &self.replica(card)[entry_at(self.cards, counter, of)];
+        words.try_into().expect("an entry's words")
     }
 
     /// Value and holders.
     fn read(&self, card: usize, counter: u64) -> (u64, u64) {
         let reading = library::read(self.replica(card), counter);
-        assert_eq!(reading.number, 0);
+        assert_eq!(reading.number, OK);
         assert_eq!(reading.holder_count, u64::from(reading.holders.count_ones()));
         (reading.value, reading.holders)
     }
 }
 
+const ABSENT: [u64; ENTRY_WORDS] = [0; ENTRY_WORDS];
+
 fn fresh(cards: usize, counters: usize, own: u64) -> Vec<u64> {
-    let mut words = vec![9; words_of(cards, counters)];
-    assert_eq!(library::open(&mut words, cards as u64, counters as u64, own), 0);
+    let mut words = vec![9; replica_words(cards, counters)];
+    assert_eq!(library::open(&mut words, cards as u64, counters as u64, own), OK);
     words
 }
 
-const LISTED: [(u32, u32, u32); 4] = [(1, 0, 0), (3, 1, 0), (2, 1, 0), (1, 0, 0)];
+/// The bytes of card 0's first count, but for their sequence.
+fn first_count(sequence: u64) -> Vec<u8> {
+    let (version, kind) = (MESSAGE_VERSION, MESSAGE_INCREMENT);
+    let (sender, counter, entries) = (0, 0, Vec::new());
+    Draft { version, kind, sender, sequence, counter, p: 1, start: 1, entries }.bytes()
+}
+
+const LISTED: [Step; 4] = [count(0, 0), deliver(1, 0), clear(1, 0), count(0, 0)];
 
 #[test]
 fn the_listing() {
     let run = after(2, 1, &LISTED);
     assert_eq!(run.read(0, 0), (2, 1));
     assert_eq!(run.read(1, 0), (0, 0));
-    let mut input = vec![0, 0, 0, 2, 0, 0, 0, 1];
-    for (kind, first, second) in LISTED {
-        input.extend(Step { kind, first, second }.to_bytes());
-    }
+    let mut input = [2u32, 1].map(u32::to_be_bytes).concat();
+    input.extend(LISTED.iter().flat_map(|step| step.to_bytes()));
     let text = "card,counter,value,holders,quiet\r\n0,0,2,1,0\r\n1,0,0,0,1\r\n";
     assert_eq!(listing(&input), text);
     assert_eq!(listing(&input[..7]), "refused,11\r\n");
@@ -80,170 +99,156 @@ fn the_listing() {
 #[test]
 fn the_clear_comes_back_after_a_second_count() {
     let mut list = LISTED.to_vec();
-    list.push((3, 0, 1));
+    list.push(deliver(0, 1));
     let run = after(2, 1, &list);
-    assert_eq!((run.entry(0, 0, 0), run.read(0, 0).0), ((2, 1, 2), 1));
-    list.push((3, 1, 0));
+    assert_eq!((run.entry(0, 0, 0), run.read(0, 0).0), ([2, 1, 2], 1));
+    list.push(deliver(1, 0));
     let run = after(2, 1, &list);
-    assert_eq!((run.entry(1, 0, 0), run.read(1, 0).0), ((2, 1, 2), 1));
+    assert_eq!((run.entry(1, 0, 0), run.read(1, 0).0), ([2, 1, 2], 1));
 }
 
 #[test]
 fn a_clear_before_its_increment() {
-    let mut list = vec![(1, 0, 0), (3, 1, 0), (2, 1, 0), (3, 2, 1)];
+    let mut list = vec![count(0, 0), deliver(1, 0), clear(1, 0), deliver(2, 1)];
     let run = after(3, 1, &list);
-    assert_eq!((run.entry(2, 0, 0), run.read(2, 0)), ((1, 1, 1), (0, 1)));
-    list.push((3, 2, 0));
+    assert_eq!((run.entry(2, 0, 0), run.read(2, 0)), ([1, 1, 1], (0, 1)));
+    list.push(deliver(2, 0));
     let run = after(3, 1, &list);
-    assert_eq!((run.entry(2, 0, 0), run.read(2, 0)), ((0, 0, 0), (0, 0)));
+    assert_eq!((run.entry(2, 0, 0), run.read(2, 0)), (ABSENT, (0, 0)));
 }
 
 #[test]
 fn a_new_start_before_the_clear_it_follows() {
-    let mut list =
-        vec![(1, 0, 0), (3, 1, 0), (3, 2, 0), (2, 1, 0), (3, 0, 1), (1, 0, 0), (3, 2, 0)];
+    let mut list = vec![count(0, 0), deliver(1, 0), deliver(2, 0), clear(1, 0), deliver(0, 1)];
+    list.extend([count(0, 0), deliver(2, 0)]);
     let run = after(3, 1, &list);
-    assert_eq!((run.entry(2, 0, 0), run.read(2, 0).0), ((2, 1, 2), 1));
-    list.push((3, 2, 1));
+    assert_eq!((run.entry(2, 0, 0), run.read(2, 0).0), ([2, 1, 2], 1));
+    list.push(deliver(2, 1));
     let run = after(3, 1, &list);
-    assert_eq!((run.entry(2, 0, 0), run.read(2, 0).0), ((2, 1, 2), 1));
+    assert_eq!((run.entry(2, 0, 0), run.read(2, 0).0), ([2, 1, 2], 1));
 }
 
 #[test]
 fn a_start_after_counts_elsewhere() {
-    let run = after(1, 2, &[(1, 0, 0), (1, 0, 0), (1, 0, 1)]);
-    assert_eq!((run.entry(0, 1, 0), run.read(0, 1).0), ((3, 2, 3), 1));
+    let run = after(1, 2, &[count(0, 0), count(0, 0), count(0, 1)]);
+    assert_eq!((run.entry(0, 1, 0), run.read(0, 1).0), ([3, 2, 3], 1));
 }
 
 #[test]
 fn a_start_after_an_own_clear() {
-    let run = after(1, 1, &[(1, 0, 0), (2, 0, 0), (1, 0, 0)]);
-    assert_eq!((run.entry(0, 0, 0), run.read(0, 0).0), ((2, 1, 2), 1));
+    let run = after(1, 1, &[count(0, 0), clear(0, 0), count(0, 0)]);
+    assert_eq!((run.entry(0, 0, 0), run.read(0, 0).0), ([2, 1, 2], 1));
 }
 
 #[test]
 fn a_clear_of_nothing() {
     let mut words = fresh(2, 1, 0);
-    let mut out = [0; 28];
+    let mut out = [0; clear_bytes(0)];
     let sent = library::clear(&mut words, 0, &mut out);
-    assert_eq!(sent, library::Sent { number: 0, sequence: 1, length: 28 });
-    assert_eq!((words[3], words[5]), (0, 1), "C and N of card 0");
+    assert_eq!(sent, library::Sent { number: OK, sequence: 1, length: clear_bytes(0) as u64 });
+    assert_eq!((words[increments_at(0)], words[messages_at(2, 0)]), (0, 1), "C and N of card 0");
 }
 
 #[test]
-fn thirty_five_output_bytes_are_too_few() {
+fn an_output_byte_too_few() {
     let mut words = fresh(2, 1, 0);
     let before = words.clone();
-    let mut out = [7; 36];
-    let short = library::count(&mut words, 0, &mut out[..35]);
-    assert_eq!(short, library::Sent { number: 5, sequence: 0, length: 0 });
-    assert_eq!((&words, out), (&before, [7; 36]));
+    let mut out = [7; INCREMENT_BYTES];
+    let short = library::count(&mut words, 0, &mut out[1..]);
+    assert_eq!(short, library::Sent { number: SHORT_OUTPUT, sequence: 0, length: 0 });
+    assert_eq!((&words, out), (&before, [7; INCREMENT_BYTES]));
     let sent = library::count(&mut words, 0, &mut out);
-    assert_eq!(sent, library::Sent { number: 0, sequence: 1, length: 36 });
-}
-
-#[test]
-fn sixty_four_counters_and_not_one_more() {
-    let mut words = vec![0; words_of(1, 64)];
-    assert_eq!(library::open(&mut words, 1, 64, 0), 0);
-    let mut words = vec![5; words_of(1, 65)];
-    assert_eq!(library::open(&mut words, 1, 65, 0), 1);
-    assert!(words.iter().all(|word| *word == 5));
+    assert_eq!(sent, library::Sent { number: OK, sequence: 1, length: INCREMENT_BYTES as u64 });
 }
 
 #[test]
 fn sequences_in_turn() {
     let mut words = fresh(2, 1, 1);
-    let numbered = |sequence: u8| {
-        let mut bytes = [0; 36];
-        (bytes[3], bytes[7], bytes[19], bytes[31], bytes[35]) = (1, 1, sequence, 1, 1);
-        bytes
-    };
     let mut take = |sequence| {
-        let taken = library::take(&mut words, &numbered(sequence));
+        let taken = library::take(&mut words, &first_count(sequence));
         (taken.number, taken.sequence)
     };
-    assert_eq!(take(0), (6, 0));
-    assert_eq!(take(2), (9, 0));
-    assert_eq!(take(1), (0, 1));
-    assert_eq!(take(1), (8, 0));
+    assert_eq!(take(0), (UNREADABLE, 0));
+    assert_eq!(take(2), (EARLY, 0));
+    assert_eq!(take(1), (OK, 1));
+    assert_eq!(take(1), (REPEATED, 0));
 }
 
 /// The wrong turn "dropping an entry as soon as p = n", at a clear taken over a present entry.
 #[test]
 fn a_clear_that_knows_more_stays_until_the_rest_has_come() {
-    let mut list =
-        vec![(1, 0, 0), (1, 0, 0), (3, 1, 0), (3, 1, 0), (3, 2, 0), (2, 1, 0), (3, 2, 1)];
+    let mut list = vec![count(0, 0), count(0, 0), deliver(1, 0), deliver(1, 0), deliver(2, 0)];
+    list.extend([clear(1, 0), deliver(2, 1)]);
     let run = after(3, 1, &list);
-    assert_eq!((run.entry(2, 0, 0), run.read(2, 0)), ((2, 2, 2), (0, 1)));
-    list.push((3, 2, 0));
+    assert_eq!((run.entry(2, 0, 0), run.read(2, 0)), ([2, 2, 2], (0, 1)));
+    list.push(deliver(2, 0));
     let run = after(3, 1, &list);
-    assert_eq!((run.entry(2, 0, 0), run.read(2, 0)), ((0, 0, 0), (0, 0)));
+    assert_eq!((run.entry(2, 0, 0), run.read(2, 0)), (ABSENT, (0, 0)));
 }
 
 /// The same wrong turn at an increment that a clear has overtaken.
 #[test]
 fn an_overtaken_increment_leaves_the_entry_until_the_last_has_come() {
-    let (count, to_card_1) = ((1, 0, 0), (3, 1, 0));
-    let mut list = vec![count, count, count, to_card_1, to_card_1, to_card_1, (2, 1, 0), (3, 2, 1)];
+    let mut list = [[count(0, 0); 3], [deliver(1, 0); 3]].concat();
+    list.extend([clear(1, 0), deliver(2, 1)]);
     for _ in 0..2 {
-        list.push((3, 2, 0));
+        list.push(deliver(2, 0));
         let run = after(3, 1, &list);
-        assert_eq!((run.entry(2, 0, 0), run.read(2, 0)), ((3, 3, 3), (0, 1)));
+        assert_eq!((run.entry(2, 0, 0), run.read(2, 0)), ([3, 3, 3], (0, 1)));
     }
-    list.push((3, 2, 0));
+    list.push(deliver(2, 0));
     let run = after(3, 1, &list);
-    assert_eq!((run.entry(2, 0, 0), run.read(2, 0)), ((0, 0, 0), (0, 0)));
+    assert_eq!((run.entry(2, 0, 0), run.read(2, 0)), (ABSENT, (0, 0)));
 }
 
 /// Source document 001, section 2: increment by 2, deliver, remove at the other card, increment
 /// by 3 meanwhile. The ideal outcome there is 3, on both once everything has come.
 #[test]
 fn embedded_counter_keeps_the_concurrent_increment() {
-    let (count, to_card_1) = ((1, 0, 0), (3, 1, 0));
-    let mut list = vec![count, count, to_card_1, to_card_1, (2, 1, 0), count, count, count];
+    let mut list = [[count(0, 0); 2], [deliver(1, 0); 2]].concat();
+    list.push(clear(1, 0));
+    list.extend([count(0, 0); 3]);
     assert_eq!(after(2, 1, &list).read(0, 0).0, 5);
     assert_eq!(after(2, 1, &list).read(1, 0).0, 0);
-    list.push((3, 0, 1));
+    list.push(deliver(0, 1));
     assert_eq!(after(2, 1, &list).read(0, 0).0, 3);
-    list.extend([to_card_1; 3]);
+    list.extend([deliver(1, 0); 3]);
     let run = after(2, 1, &list);
     assert_eq!((run.read(0, 0).0, run.read(1, 0).0), (3, 3));
 }
 
 #[test]
 fn bytes_past_a_cards_own_messages_are_no_message() {
-    let mut foreign = [0; 36];
-    (foreign[3], foreign[7], foreign[19], foreign[31], foreign[35]) = (1, 1, 1, 1, 1);
-    let mut logs = [foreign, foreign].concat();
-    let steps = Step::deliver(1, 0).to_bytes();
-    let mut words = vec![0; 2 * words_of(2, 1)];
+    let foreign = first_count(1);
+    let mut logs = [&foreign[..], &foreign].concat();
+    let steps = deliver(1, 0).to_bytes();
+    let mut words = vec![0; 2 * replica_words(2, 1)];
     let mut answers = [0];
-    assert_eq!(library::waiting(&logs[..36], 1).length, 36);
+    assert_eq!(library::waiting(&foreign, 1).length, foreign.len() as u64);
     let lent = Buffers { words: &mut words, logs: &mut logs, answers: &mut answers };
-    assert_eq!(library::run(2, 1, 36, &steps, lent), 0);
-    assert_eq!(answers, [13]);
-    assert_eq!(logs, [foreign, foreign].concat());
+    assert_eq!(library::run(2, 1, foreign.len() as u64, &steps, lent), OK);
+    assert_eq!(answers, [NOTHING_WAITING]);
+    assert_eq!(logs, [&foreign[..], &foreign].concat());
 }
 
 #[test]
 fn nothing_lent() {
-    assert_eq!(library::open(&mut [], 1, 1, 0), 1);
-    assert_eq!(library::read(&[], 0).number, 1);
-    assert_eq!(library::count(&mut [], 0, &mut []).number, 1);
-    assert_eq!(library::clear(&mut [], 0, &mut []).number, 1);
-    assert_eq!(library::take(&mut [], &[]).number, 1);
-    assert_eq!(library::read_message(&[]).number, 6);
-    assert_eq!(library::write_message(library::Message::default(), &mut []).number, 6);
+    assert_eq!(library::open(&mut [], 1, 1, 0), BAD_REPLICA);
+    assert_eq!(library::read(&[], 0).number, BAD_REPLICA);
+    assert_eq!(library::count(&mut [], 0, &mut []).number, BAD_REPLICA);
+    assert_eq!(library::clear(&mut [], 0, &mut []).number, BAD_REPLICA);
+    assert_eq!(library::take(&mut [], &[]).number, BAD_REPLICA);
+    assert_eq!(library::read_message(&[]).number, UNREADABLE);
+    assert_eq!(library::write_message(library::Message::default(), &mut []).number, UNREADABLE);
     assert_eq!(library::waiting(&[], 1), library::Span::default());
     let run = |cards, words: &mut [u64]| {
         let lent = Buffers { words, logs: &mut [], answers: &mut [] };
         library::run(cards, 1, 0, &[], lent)
     };
-    assert_eq!(run(1, &mut []), 11);
+    assert_eq!(run(1, &mut []), BAD_SIZES);
     let mut words = fresh(2, 1, 0);
-    assert_eq!(library::count(&mut words, 0, &mut []).number, 5);
-    assert_eq!(library::clear(&mut words, 0, &mut []).number, 5);
-    assert_eq!(library::take(&mut words, &[]).number, 6);
-    assert_eq!(run(2, &mut vec![7; 2 * words.len()]), 0);
+    assert_eq!(library::count(&mut words, 0, &mut []).number, SHORT_OUTPUT);
+    assert_eq!(library::clear(&mut words, 0, &mut []).number, SHORT_OUTPUT);
+    assert_eq!(library::take(&mut words, &[]).number, UNREADABLE);
+    assert_eq!(run(2, &mut vec![7; 2 * words.len()]), OK);
 }

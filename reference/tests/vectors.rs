@@ -3,9 +3,9 @@
 
 use yelansub_reference::differential::messages;
 use yelansub_reference::library;
-use yelansub_reference::limits::{MAX, MAX_CARDS, MAX_COUNTERS};
-use yelansub_reference::message::{self, Body, Entries, Entry, Message, LONGEST};
-use yelansub_reference::replica::{self, words_of};
+use yelansub_reference::limits::*;
+use yelansub_reference::message::{self, Body, Entries, Entry, Message};
+use yelansub_reference::replica::{self, entry_at, increments_at, messages_at};
 
 const VECTORS: &str = include_str!("../vectors/messages.txt");
 
@@ -16,7 +16,7 @@ struct Vector {
 
 fn vectors() -> Vec<Vector> {
     let list: Vec<Vector> = VECTORS.lines().map(vector).collect();
-    assert!(list.len() > 200, "the file of vectors is short");
+    assert!(list.len() > 150, "the file of vectors is short");
     list
 }
 
@@ -57,21 +57,24 @@ impl Words {
     /// C = N = MAX for every card but `sender`, which has made or sent one message less than
     /// `message.sequence`.
     fn before(message: &Message, own: usize) -> Words {
-        let mut words = vec![0; words_of(MAX_CARDS, MAX_COUNTERS)];
-        replica::open(&mut words, MAX_CARDS as u64, MAX_COUNTERS as u64, own as u64).unwrap();
-        words[3..3 + 2 * MAX_CARDS].fill(MAX);
+        let mut words = vec![0; replica_words(MOST_CARDS, MOST_COUNTERS)];
+        replica::open(&mut words, MOST_CARDS as u64, MOST_COUNTERS as u64, own as u64).unwrap();
+        for card in 0..MOST_CARDS {
+            words[increments_at(card)] = MAX;
+            words[messages_at(MOST_CARDS, card)] = MAX;
+        }
         let sender = message.sender as usize;
-        words[3 + MAX_CARDS + sender] = message.sequence - 1;
-        words[3 + sender] = match message.body {
+        words[messages_at(MOST_CARDS, sender)] = message.sequence - 1;
+        words[increments_at(sender)] = match message.body {
             Body::Increment { p, start: true } => p - 1,
             _ => message.sequence - 1,
         };
         Words(words)
     }
 
-    fn set(&mut self, counter: u32, card: u32, entry: [u64; 3]) {
-        let at = 3 + 2 * MAX_CARDS + 3 * (MAX_CARDS * counter as usize + card as usize);
-        self.0[at..at + 3].copy_from_slice(&entry);
+    fn set(&mut self, counter: u32, card: u32, entry: [u64; ENTRY_WORDS]) {
+        let at = entry_at(MOST_CARDS, counter as usize, card as usize);
+        self.0[at].copy_from_slice(&entry);
     }
 }
 
@@ -94,7 +97,7 @@ fn maker(message: &Message) -> Vec<u64> {
 
 /// A replica of another card whose next message from the sender is the vector's.
 fn taker(message: &Message) -> Vec<u64> {
-    Words::before(message, (message.sender as usize + 1) % MAX_CARDS).0
+    Words::before(message, (message.sender as usize + 1) % MOST_CARDS).0
 }
 
 #[test]
@@ -106,15 +109,19 @@ fn document_01_example_is_the_first_vector() {
 #[test]
 fn vectors_cover_every_number_of_entries() {
     let list = vectors();
-    for entries in 0..=MAX_CARDS {
-        assert!(list.iter().any(|v| v.bytes[7] == 2 && v.bytes.len() == 28 + 20 * entries));
+    for entries in 0..=MOST_CARDS {
+        let has = |v: &Vector| match v.message.body {
+            Body::Increment { .. } => false,
+            Body::Clear(of) => of.as_slice().len() == entries,
+        };
+        assert!(list.iter().any(has), "{entries} entries");
     }
 }
 
 #[test]
 fn reference_writes_and_reads_the_vectors() {
     for Vector { message, bytes } in vectors() {
-        let mut out = [0; LONGEST];
+        let mut out = [0; LONGEST_MESSAGE];
         assert_eq!(message::write(&message, &mut out), Ok(bytes.len()));
         assert_eq!(out[..bytes.len()], bytes);
         assert_eq!(message::read(&bytes), Some(message));
@@ -125,11 +132,11 @@ fn reference_writes_and_reads_the_vectors() {
 fn library_reads_and_writes_the_vectors() {
     for Vector { message, bytes } in vectors() {
         let form = messages::form_of(&message);
-        let read = library::MessageReading { number: 0, message: form };
+        let read = library::MessageReading { number: OK, message: form };
         assert_eq!(library::read_message(&bytes), read, "{message:?}");
-        let mut out = [0xee; LONGEST + 4];
+        let mut out = [0xee; LONGEST_MESSAGE + 4];
         let written = library::write_message(form, &mut out);
-        assert_eq!(written, library::Written { number: 0, length: bytes.len() }, "{message:?}");
+        assert_eq!(written, library::Written { number: OK, length: bytes.len() }, "{message:?}");
         assert_eq!(out[..bytes.len()], bytes, "{message:?}");
         assert!(out[bytes.len()..].iter().all(|byte| *byte == 0xee), "{message:?}");
     }
@@ -139,14 +146,14 @@ fn library_reads_and_writes_the_vectors() {
 fn library_makes_the_vectors() {
     for Vector { message, bytes } in vectors() {
         let mut words = maker(&message);
-        let mut out = [0xee; LONGEST + 4];
+        let mut out = [0xee; LONGEST_MESSAGE + 4];
         let counter = u64::from(message.counter);
         let sent = match message.body {
             Body::Increment { .. } => library::count(&mut words, counter, &mut out),
             Body::Clear(_) => library::clear(&mut words, counter, &mut out),
         };
         let expected =
-            library::Sent { number: 0, sequence: message.sequence, length: bytes.len() as u64 };
+            library::Sent { number: OK, sequence: message.sequence, length: bytes.len() as u64 };
         assert_eq!(sent, expected, "{message:?}");
         assert_eq!(out[..bytes.len()], bytes, "{message:?}");
         assert!(out[bytes.len()..].iter().all(|byte| *byte == 0xee), "{message:?}");
@@ -159,7 +166,7 @@ fn library_takes_the_vectors() {
         let mut words = taker(&message);
         let mut ours = words.clone();
         let taken = library::take(&mut words, &bytes);
-        assert_eq!(taken, library::Taken { number: 0, sequence: message.sequence }, "{message:?}");
+        assert_eq!(taken, library::Taken { number: OK, sequence: message.sequence }, "{message:?}");
         assert_eq!(replica::take(&mut ours, &bytes), Ok(message.sequence));
         assert_eq!(words, ours, "{message:?}");
     }
@@ -174,19 +181,19 @@ fn every_flipped_bit_and_every_other_length_of_the_vectors_agrees() {
         let mut agree = |bytes: &[u8]| {
             let expected = replica::take(&mut ours, bytes);
             let taken = library::take(&mut theirs, bytes);
-            let answer = if taken.number == 0 { Ok(taken.sequence) } else { Err(taken.number) };
+            let answer = if taken.number == OK { Ok(taken.sequence) } else { Err(taken.number) };
             assert_eq!(answer, expected, "{bytes:?}");
             assert_eq!(ours, theirs, "{bytes:?}");
             let read = messages::reading(message::read(bytes));
             assert_eq!(library::read_message(bytes), read, "{bytes:?}");
-            unreadable += u32::from(taken.number == 6);
-            if taken.number == 0 {
+            unreadable += u32::from(taken.number == UNREADABLE);
+            if taken.number == OK {
                 ours.copy_from_slice(&before);
                 theirs.copy_from_slice(&before);
             }
         };
         let mut longer = bytes.clone();
-        longer.extend([0; 24]);
+        longer.extend([0; clear_bytes(1)]);
         for len in 0..longer.len() {
             agree(&longer[..len]);
         }

@@ -14,8 +14,10 @@
 #include <string.h>
 
 #include "message.h"
+#include "yelansub.h"
 
-#define LARGEST UINT64_C(281474976710655)
+enum { LAST_CARD = YELANSUB_MOST_CARDS - 1, LAST_COUNTER = YELANSUB_MOST_COUNTERS - 1 };
+enum { BITS = 48 }; /* of YELANSUB_MAX */
 
 static uint64_t state = 4506;
 
@@ -33,12 +35,12 @@ static uint64_t between(uint64_t low, uint64_t high)
     return low + next() % (high - low + 1);
 }
 
-static void print_hex(yelansub_message *message)
+static void print_hex(yelansub_wire_message *message)
 {
-    char bytes[512];
+    char bytes[YELANSUB_LONGEST_MESSAGE];
     XDR xdr;
     xdrmem_create(&xdr, bytes, sizeof bytes, XDR_ENCODE);
-    if (!xdr_yelansub_message(&xdr, message)) {
+    if (!xdr_yelansub_wire_message(&xdr, message)) {
         fprintf(stderr, "not written\n");
         exit(1);
     }
@@ -51,7 +53,7 @@ static void print_hex(yelansub_message *message)
 
 static void increment(unsigned sender, uint64_t sequence, unsigned counter, uint64_t p, int start)
 {
-    yelansub_message message = {.message_version = YELANSUB_MESSAGE_VERSION};
+    yelansub_wire_message message = {.message_version = YELANSUB_MESSAGE_VERSION};
     message.body.kind = YELANSUB_INCREMENT;
     yelansub_increment *body = &message.body.yelansub_body_u.increment;
     body->header = (yelansub_header){sender, sequence, counter};
@@ -65,9 +67,9 @@ static void increment(unsigned sender, uint64_t sequence, unsigned counter, uint
 /* Entries for the cards of the set, with numbers up to limit. */
 static void clear(unsigned sender, uint64_t sequence, unsigned counter, unsigned set, uint64_t limit)
 {
-    yelansub_entry entries[16];
+    yelansub_entry entries[YELANSUB_MOST_CARDS];
     unsigned count = 0;
-    for (unsigned card = 0; card < 16; card++) {
+    for (unsigned card = 0; card <= LAST_CARD; card++) {
         uint64_t most = card == sender && sequence - 1 < limit ? sequence - 1 : limit;
         if (!(set >> card & 1) || most == 0)
             continue;
@@ -75,7 +77,7 @@ static void clear(unsigned sender, uint64_t sequence, unsigned counter, unsigned
         uint64_t p = next() % 4 == 0 ? c : between(1, c);
         entries[count++] = (yelansub_entry){card, p, c};
     }
-    yelansub_message message = {.message_version = YELANSUB_MESSAGE_VERSION};
+    yelansub_wire_message message = {.message_version = YELANSUB_MESSAGE_VERSION};
     message.body.kind = YELANSUB_CLEAR;
     yelansub_clearing *body = &message.body.yelansub_body_u.clearing;
     body->header = (yelansub_header){sender, sequence, counter};
@@ -91,25 +93,28 @@ static void clear(unsigned sender, uint64_t sequence, unsigned counter, unsigned
 int main(void)
 {
     increment(0, 1, 0, 1, 1); /* document 01's example */
-    increment(15, LARGEST, 63, LARGEST, 1);
-    increment(15, LARGEST, 63, LARGEST, 0);
+    increment(LAST_CARD, YELANSUB_MAX, LAST_COUNTER, YELANSUB_MAX, 1);
+    increment(LAST_CARD, YELANSUB_MAX, LAST_COUNTER, YELANSUB_MAX, 0);
     increment(0, 2, 0, 2, 0);
-    for (unsigned sender = 0; sender < 16; sender++)
+    for (unsigned sender = 0; sender <= LAST_CARD; sender++)
         for (int start = 0; start < 2; start++) {
-            uint64_t sequence = between(2, UINT64_C(1) << between(2, 47));
-            increment(sender, sequence, (unsigned)between(0, 63), between(2, sequence), start);
+            uint64_t sequence = between(2, UINT64_C(1) << between(2, BITS - 1));
+            increment(sender, sequence, (unsigned)between(0, LAST_COUNTER), between(2, sequence), start);
         }
-    for (unsigned bit = 1; bit < 48; bit++)
-        increment(bit % 16, UINT64_C(1) << bit, bit, (UINT64_C(1) << bit) - 1 + (bit == 1), bit % 2);
+    for (unsigned bit = 1; bit < BITS; bit++)
+        increment(bit % YELANSUB_MOST_CARDS, UINT64_C(1) << bit, bit % YELANSUB_MOST_COUNTERS,
+                  (UINT64_C(1) << bit) - 1 + (bit == 1), bit % 2);
 
-    clear(0, 1, 0, 0, LARGEST);
-    clear(15, LARGEST, 63, 0, LARGEST);
-    for (unsigned count = 0; count <= 16; count++)
-        clear(count % 16, LARGEST - count, count, (1u << count) - 1, LARGEST);
-    for (unsigned card = 0; card < 16; card++)
-        clear(15 - card, between(1, LARGEST), card, 1u << card, 9);
+    clear(0, 1, 0, 0, YELANSUB_MAX);
+    clear(LAST_CARD, YELANSUB_MAX, LAST_COUNTER, 0, YELANSUB_MAX);
+    for (unsigned count = 0; count <= YELANSUB_MOST_CARDS; count++)
+        clear(count % YELANSUB_MOST_CARDS, YELANSUB_MAX - count, count % YELANSUB_MOST_COUNTERS,
+              (1u << count) - 1, YELANSUB_MAX);
+    for (unsigned card = 0; card <= LAST_CARD; card++)
+        clear(LAST_CARD - card, between(1, YELANSUB_MAX), card % YELANSUB_MOST_COUNTERS, 1u << card, 9);
     for (unsigned i = 0; i < 100; i++)
-        clear((unsigned)between(0, 15), between(1, UINT64_C(1) << between(1, 47)),
-              (unsigned)between(0, 63), (unsigned)between(0, 65535), UINT64_C(1) << between(0, 47));
+        clear((unsigned)between(0, LAST_CARD), between(1, UINT64_C(1) << between(1, BITS - 1)),
+              (unsigned)between(0, LAST_COUNTER), (unsigned)between(0, (1u << YELANSUB_MOST_CARDS) - 1),
+              UINT64_C(1) << between(0, BITS - 1));
     return 0;
 }

@@ -5,7 +5,9 @@ use std::io::Write;
 use std::process::{Command, Stdio};
 
 use yelansub_reference::chassis::Step;
-use yelansub_reference::listing::{listing, LONGEST_INPUT, MAX_CARDS, MAX_COUNTERS, MAX_STEPS};
+use yelansub_reference::limits::{self, STEP_BYTES};
+use yelansub_reference::listing::{listing, LONGEST_INPUT, SIZES_BYTES};
+use yelansub_reference::listing::{MOST_CARDS, MOST_COUNTERS, MOST_STEPS};
 use yelansub_reference::random::Random;
 
 fn main() {
@@ -35,27 +37,31 @@ fn printed(program: &str, input: &[u8]) -> Vec<u8> {
     // A program that has refused may close its input early.
     let _ = child.stdin.take().expect("piped").write_all(input);
     let output = child.wait_with_output().expect("the program ends");
+    assert!(output.status.success(), "{}, input {input:?}", output.status);
     output.stdout
 }
 
 fn input(random: &mut Random) -> Vec<u8> {
-    let mut r = random.between(1, MAX_CARDS.into()) as u32;
-    let mut k = random.between(1, MAX_COUNTERS.into()) as u32;
+    let mut r = random.between(1, MOST_CARDS.into()) as u32;
+    let mut k = random.between(1, MOST_COUNTERS.into()) as u32;
     let steps = match random.below(8) {
-        0 => MAX_STEPS as u64,
+        0 => MOST_STEPS as u64,
         1 => random.below(4),
-        _ => random.below(MAX_STEPS as u64),
+        _ => random.below(MOST_STEPS as u64),
     };
     let mut bytes = Vec::new();
     for _ in 0..steps {
         bytes.extend(step(random, r, k).to_bytes());
     }
     match random.below(16) {
-        0 => r = random.pick(&[0, MAX_CARDS + 1, 16, u32::MAX]),
-        1 => k = random.pick(&[0, MAX_COUNTERS + 1, 64, u32::MAX]),
+        0 => r = random.pick(&[0, MOST_CARDS + 1, limits::MOST_CARDS as u32, u32::MAX]),
+        1 => k = random.pick(&[0, MOST_COUNTERS + 1, limits::MOST_COUNTERS as u32, u32::MAX]),
         2 => bytes.push(0),
         3 => bytes.truncate(random.below(bytes.len() as u64 + 1) as usize),
-        4 => bytes.resize(LONGEST_INPUT - 8 + random.pick(&[0, 1, 12, 5000]), 0),
+        4 => {
+            let more = random.pick(&[0, 1, STEP_BYTES, 5000]);
+            bytes.resize(LONGEST_INPUT - SIZES_BYTES + more, 0);
+        }
         _ => {}
     }
     let mut input = Vec::new();
@@ -63,7 +69,7 @@ fn input(random: &mut Random) -> Vec<u8> {
     input.extend(k.to_be_bytes());
     input.extend(bytes);
     if random.percent(3) {
-        input.truncate(random.below(9) as usize);
+        input.truncate(random.below(SIZES_BYTES as u64 + 1) as usize);
     }
     input
 }

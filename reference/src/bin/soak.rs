@@ -5,7 +5,7 @@
 
 use std::time::{Duration, Instant};
 
-use yelansub_reference::differential::{alone, calls, logs, messages, network, runs};
+use yelansub_reference::differential::{alone, calls, logs, messages, network, runs, Tally};
 
 fn main() {
     let arguments: Vec<String> = std::env::args().skip(1).collect();
@@ -29,16 +29,23 @@ fn main() {
     }
 }
 
+fn report(tally: Tally, require: impl Fn(&Tally)) {
+    println!("{tally}");
+    require(&tally);
+}
+
 fn every_series(minutes: u64, first: u64) {
     let until = Instant::now() + Duration::from_secs(60 * minutes);
     for seed in first.. {
-        println!("seed {seed}\n{}", calls::random_calls(seed, 200_000));
-        println!("{}", messages::random_messages(seed, 200_000));
-        println!("{}", logs::random_logs(seed, 20_000));
-        println!("{}", runs::random_runs(seed, 20_000, 80));
-        println!("{}", runs::random_runs(seed, 20, 5_000));
-        println!("{}", network::histories(seed, 200_000));
-        println!("{}", alone::random_lists(seed, 10_000, 100));
+        println!("seed {seed}");
+        report(calls::random_calls(seed, 200_000), calls::require_all);
+        report(messages::random_messages(seed, 200_000), messages::require_all);
+        report(logs::random_logs(seed, 20_000), logs::require_all);
+        report(runs::random_runs(seed, 20_000, 80), runs::require_all);
+        // Too few to meet everything.
+        report(runs::random_runs(seed, 20, 5_000), |_| {});
+        report(network::histories(seed, 200_000), network::require_all);
+        report(alone::random_lists(seed, 10_000, 100), |t| alone::require_all(t, 10_000));
         if Instant::now() > until {
             break;
         }

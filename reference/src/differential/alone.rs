@@ -2,12 +2,11 @@
 //! every card's read of it as the whole list does.
 
 use super::{generate, runs, Place, Tally};
-use crate::chassis::{Buffers, Step, CLEAR, COUNT, DELIVER};
+use crate::chassis::{Buffers, Step};
 use crate::library::{self, Reading};
-use crate::limits::{ACCEPTED, LOG_FULL};
+use crate::limits::*;
 use crate::message::{self, Body, Message};
 use crate::random::Random;
-use crate::replica::words_of;
 
 /// What a counter's own steps are worth as a test.
 const EMPTY: u64 = 0;
@@ -23,7 +22,7 @@ pub fn random_lists(seed: u64, lists: u64, longest: u64) -> Tally {
         let mut random = Random::case(seed, case);
         let (cards, counters) = match random.below(20) {
             0 => generate::shape(&mut random),
-            1 => (random.between(1, 16) as usize, random.between(1, 8) as usize),
+            1 => (random.between(1, MOST_CARDS as u64) as usize, random.between(1, 8) as usize),
             _ => (random.between(2, 4) as usize, random.between(2, 4) as usize),
         };
         let (steps, log_bytes) = runs::list(&mut random, cards, counters, longest);
@@ -67,7 +66,7 @@ impl List {
 
     /// The run, on buffers that hold anything.
     pub fn run(&self, random: &mut Random) -> After {
-        let words = random.words(self.cards * words_of(self.cards, self.counters));
+        let words = random.words(self.cards * replica_words(self.cards, self.counters));
         let logs = runs::log_content(random, self.cards, self.counters, self.log_bytes);
         self.run_on(words, logs)
     }
@@ -77,15 +76,15 @@ impl List {
         let steps: Vec<u8> = self.steps.iter().flat_map(|step| step.to_bytes()).collect();
         let (r, k, log_bytes) = (self.cards as u64, self.counters as u64, self.log_bytes as u64);
         let lent = Buffers { words: &mut words, logs: &mut logs, answers: &mut answers };
-        assert_eq!(library::run(r, k, log_bytes, &steps, lent), ACCEPTED);
+        assert_eq!(library::run(r, k, log_bytes, &steps, lent), OK);
         After { answers, words, logs }
     }
 
     /// Every card's read of the counter.
     pub fn reads(&self, after: &After, counter: usize) -> Vec<Reading> {
-        let words = after.words.chunks_exact(words_of(self.cards, self.counters));
+        let words = after.words.chunks_exact(replica_words(self.cards, self.counters));
         let reads: Vec<_> = words.map(|words| library::read(words, counter as u64)).collect();
-        assert!(reads.iter().all(|read| read.number == ACCEPTED), "{self:?}");
+        assert!(reads.iter().all(|read| read.number == OK), "{self:?}");
         reads
     }
 
@@ -93,7 +92,7 @@ impl List {
     fn messages(&self, after: &After) -> Vec<Vec<Message>> {
         let mut made = vec![0; self.cards];
         for (step, answer) in self.steps.iter().zip(&after.answers) {
-            if *answer == ACCEPTED && step.kind != DELIVER {
+            if *answer == OK && step.kind != STEP_DELIVER {
                 made[step.first as usize] += 1;
             }
         }
@@ -118,8 +117,8 @@ impl List {
         for (step, answer) in self.steps.iter().zip(&after.answers) {
             let (first, second) = (step.first as usize, step.second as usize);
             belongs.push(match step.kind {
-                _ if *answer != ACCEPTED => None,
-                COUNT | CLEAR => Some(second),
+                _ if *answer != OK => None,
+                STEP_COUNT | STEP_CLEAR => Some(second),
                 _ => {
                     let at = &mut received[first][second];
                     *at += 1;
@@ -146,7 +145,7 @@ impl List {
             let place = || format!("counter {counter} alone: {}, {self:?}", place());
             let own = self.own(&whole, counter);
             let alone = own.run(random);
-            assert_eq!(alone.answers, vec![ACCEPTED; own.steps.len()], "{}", place());
+            assert_eq!(alone.answers, vec![OK; own.steps.len()], "{}", place());
             let (reads, due) = (own.reads(&alone, counter), self.reads(&whole, counter));
             assert_eq!(reads, due, "{}", place());
             tally.note("sublist", self.worth(&whole, &own, counter));
@@ -186,12 +185,12 @@ impl List {
         if own.steps.is_empty() {
             return EMPTY;
         }
-        let declined = whole.answers.iter().any(|answer| *answer != ACCEPTED);
-        let cleared = own.steps.iter().any(|step| step.kind == CLEAR);
+        let declined = whole.answers.iter().any(|answer| *answer != OK);
+        let cleared = own.steps.iter().any(|step| step.kind == STEP_CLEAR);
         let mut others = vec![vec![false; self.cards]; self.cards];
         let mut crossed = false;
         for (step, of) in self.steps.iter().zip(self.belongs(whole)) {
-            if let (DELIVER, Some(of)) = (step.kind, of) {
+            if let (STEP_DELIVER, Some(of)) = (step.kind, of) {
                 let other = &mut others[step.first as usize][step.second as usize];
                 crossed |= of == counter && *other;
                 *other |= of != counter;
@@ -215,7 +214,7 @@ impl List {
         if asked.iter().any(|at| full(*at)) {
             let after = self.of(asked.iter().map(|at| self.steps[*at]).collect()).run(random);
             let mut both = asked.iter().zip(after.answers);
-            let room = both.any(|(at, answer)| full(*at) && answer == ACCEPTED);
+            let room = both.any(|(at, answer)| full(*at) && answer == OK);
             tally.note("full", u64::from(room));
         }
     }

@@ -1,17 +1,19 @@
 //! Chains of random calls on one replica, good and damaged.
 
 use super::{generate, number, reading, sent, taken, Guarded, Tally};
-use crate::message::LONGEST;
+use crate::library;
+use crate::limits::*;
 use crate::random::Random;
-use crate::{library, replica};
+use crate::replica::{self, CARDS_AT, COUNTERS_AT, OWN_AT};
 
 const CALLS: u64 = 6;
 
 /// Numbers that each call can give.
-pub const OPEN: &[u64] = &[0, 1];
-pub const READ: &[u64] = &[0, 1, 2, 3];
-pub const SEND: &[u64] = &[0, 1, 2, 3, 4, 5];
-pub const TAKE: &[u64] = &[0, 1, 2, 3, 6, 7, 8, 9, 10];
+pub const OPEN: &[u64] = &[OK, BAD_REPLICA];
+pub const READ: &[u64] = &[OK, BAD_REPLICA, BAD_COUNTER, BAD_ROW];
+pub const SEND: &[u64] = &[OK, BAD_REPLICA, BAD_COUNTER, BAD_ROW, EXHAUSTED, SHORT_OUTPUT];
+pub const TAKE: &[u64] =
+    &[OK, BAD_REPLICA, UNREADABLE, BAD_COUNTER, BAD_ROW, BAD_CARD, REPEATED, EARLY, IMPLAUSIBLE];
 
 /// `cases` replicas, a few calls on each.
 pub fn random_calls(seed: u64, cases: u64) -> Tally {
@@ -37,6 +39,15 @@ pub fn random_calls(seed: u64, cases: u64) -> Tally {
     tally
 }
 
+/// Panics unless every call gave all of its numbers, and nothing else.
+pub fn require_all(tally: &Tally) {
+    tally.require("open", OPEN);
+    tally.require("read", READ);
+    tally.require("count", SEND);
+    tally.require("clear", SEND);
+    tally.require("take", TAKE);
+}
+
 /// Count or clear of the reference.
 pub(super) type Send = fn(&mut [u64], u64, &mut [u8]) -> Result<replica::Sent, u64>;
 
@@ -60,7 +71,7 @@ impl Pair {
         };
         let (seed, case) = (self.seed, self.case);
         assert_eq!(self.ours, self.theirs, "words after {call}, {number}: seed {seed} case {case}");
-        if number != 0 || call == "read" {
+        if number != OK || call == "read" {
             assert_eq!(
                 before, self.theirs,
                 "{call} changed words, {number}: seed {seed} case {case}"
@@ -75,7 +86,7 @@ impl Pair {
 
     fn open(&mut self, random: &mut Random) -> (&'static str, u64) {
         let word = |at: usize| self.ours.get().get(at).copied().unwrap_or(0);
-        let mut shape = [word(0), word(1), word(2)];
+        let mut shape = [word(CARDS_AT), word(COUNTERS_AT), word(OWN_AT)];
         if random.percent(40) {
             shape[random.below(3) as usize] = random.pick(&generate::EDGES);
         }
@@ -118,11 +129,11 @@ impl Pair {
     fn room(&self, random: &mut Random, counter: u64, call: Send) -> usize {
         if random.percent(40) {
             let mut words = self.ours.get().to_vec();
-            let needed = call(&mut words, counter, &mut [0; LONGEST]);
+            let needed = call(&mut words, counter, &mut [0; LONGEST_MESSAGE]);
             let needed = needed.map_or(0, |sent| sent.length as usize);
             return random.pick(&[needed, needed, needed.saturating_sub(1), needed + 1, 0]);
         }
-        random.below(LONGEST as u64 + 60) as usize
+        random.below(LONGEST_MESSAGE as u64 + 60) as usize
     }
 
     fn take(&mut self, random: &mut Random) -> (&'static str, u64) {

@@ -1,22 +1,25 @@
 //! Random replicas and messages: reached, well-formed without being reached, and damaged.
 
 use crate::chassis::{self, Buffers, Step};
-use crate::limits::{MAX, MAX_CARDS, MAX_COUNTERS};
+use crate::limits::*;
 use crate::message::{Body, Entries, Entry, Message};
 use crate::random::Random;
-use crate::replica::{self, words_of};
+use crate::replica::{self, entry_at, increments_at, messages_at, CARDS_AT, COUNTERS_AT, OWN_AT};
+
+const CARDS: u64 = MOST_CARDS as u64;
+const COUNTERS: u64 = MOST_COUNTERS as u64;
 
 /// Words at the edges of every test that the document makes.
 pub const EDGES: [u64; 19] = [
     0,
     1,
     2,
-    15,
-    16,
-    17,
-    63,
-    64,
-    65,
+    CARDS - 1,
+    CARDS,
+    CARDS + 1,
+    COUNTERS - 1,
+    COUNTERS,
+    COUNTERS + 1,
     MAX - 1,
     MAX,
     MAX + 1,
@@ -32,10 +35,10 @@ pub const EDGES: [u64; 19] = [
 /// r and k in range, mostly small.
 pub fn shape(random: &mut Random) -> (usize, usize) {
     match random.below(20) {
-        0 => (MAX_CARDS, MAX_COUNTERS),
-        1 => (1, MAX_COUNTERS),
-        2 => (MAX_CARDS, 1),
-        3..=6 => (random.between(1, 16) as usize, random.between(1, 8) as usize),
+        0 => (MOST_CARDS, MOST_COUNTERS),
+        1 => (1, MOST_COUNTERS),
+        2 => (MOST_CARDS, 1),
+        3..=6 => (random.between(1, CARDS) as usize, random.between(1, 8) as usize),
         _ => (random.between(1, 4) as usize, random.between(1, 3) as usize),
     }
 }
@@ -67,29 +70,31 @@ pub fn good_step(random: &mut Random, cards: usize, counters: usize) -> Step {
 fn reached(random: &mut Random, cards: usize, counters: usize) -> Vec<u64> {
     let steps: Vec<u8> =
         (0..random.below(40)).flat_map(|_| good_step(random, cards, counters).to_bytes()).collect();
-    let each = words_of(cards, counters);
+    let each = replica_words(cards, counters);
+    let log_bytes = 4096;
     let mut words = vec![0; cards * each];
-    let mut logs = vec![0; cards * 4096];
-    let mut answers = vec![0; steps.len() / 12];
+    let mut logs = vec![0; cards * log_bytes];
+    let mut answers = vec![0; steps.len() / STEP_BYTES];
     let lent = Buffers { words: &mut words, logs: &mut logs, answers: &mut answers };
-    chassis::run(cards as u64, counters as u64, 4096, &steps, lent).expect("right sizes");
+    chassis::run(cards as u64, counters as u64, log_bytes as u64, &steps, lent)
+        .expect("right sizes");
     let card = random.below(cards as u64) as usize;
     words[card * each..][..each].to_vec()
 }
 
 /// Every row well-formed, reached by no run as a rule.
 fn well_formed(random: &mut Random, cards: usize, counters: usize) -> Vec<u64> {
-    let mut words = vec![0; words_of(cards, counters)];
+    let mut words = vec![0; replica_words(cards, counters)];
     let own = random.below(cards as u64) as usize;
     replica::open(&mut words, cards as u64, counters as u64, own as u64).expect("right sizes");
     for card in 0..cards {
         let messages = if random.percent(10) { MAX } else { count(random, MAX) };
-        words[3 + cards + card] = messages;
-        words[3 + card] = count(random, messages);
+        words[messages_at(cards, card)] = messages;
+        words[increments_at(card)] = count(random, messages);
     }
     for place in 0..cards * counters {
-        let card = place % cards;
-        let increments = words[3 + card];
+        let (counter, card) = (place / cards, place % cards);
+        let increments = words[increments_at(card)];
         // The own entry does not pass the own C; others may.
         let limit = if card == own { increments } else { MAX };
         if limit == 0 || random.percent(35) {
@@ -104,7 +109,7 @@ fn well_formed(random: &mut Random, cards: usize, counters: usize) -> Vec<u64> {
             1 => p - 1,
             _ => count(random, p),
         };
-        words[3 + 2 * cards + 3 * place..][..3].copy_from_slice(&[p, n, c]);
+        words[entry_at(cards, counter, card)].copy_from_slice(&[p, n, c]);
     }
     words
 }
@@ -115,10 +120,10 @@ fn near(random: &mut Random, centre: u64) -> u64 {
 
 pub fn replica(random: &mut Random) -> Vec<u64> {
     let (cards, counters) = shape(random);
-    if random.percent(40) && cards * words_of(cards, counters) < 2000 {
+    if random.percent(40) && cards * replica_words(cards, counters) < 2000 {
         reached(random, cards, counters)
     } else if random.percent(5) {
-        let mut words = vec![0; words_of(cards, counters)];
+        let mut words = vec![0; replica_words(cards, counters)];
         let own = random.below(cards as u64);
         replica::open(&mut words, cards as u64, counters as u64, own).expect("right sizes");
         words
@@ -132,24 +137,38 @@ pub fn damage_replica(random: &mut Random, words: &mut Vec<u64>) {
     let len = words.len() as u64;
     match random.below(9) {
         0 | 1 if len > 0 => words[random.below(len) as usize] ^= 1 << random.below(64),
-        2 | 3 if len > 3 => {
-            let heads = len.min(3 + 2 * MAX_CARDS as u64);
-            words[random.between(3, heads - 1) as usize] = random.pick(&EDGES);
+        2 | 3 if len > HEAD_WORDS as u64 => {
+            // A C or an N.
+            let end = len.min(replica_words(MOST_CARDS, 0) as u64);
+            words[random.between(HEAD_WORDS as u64, end - 1) as usize] = random.pick(&EDGES);
         }
         4 if len > 0 => words[random.below(len) as usize] = random.pick(&EDGES),
-        5 if len > 3 => words[random.below(3) as usize] = random.pick(&EDGES),
+        5 if len > HEAD_WORDS as u64 => {
+            words[random.below(HEAD_WORDS as u64) as usize] = random.pick(&EDGES)
+        }
         6 => words.truncate(random.below(len.max(1)) as usize),
         7 => {
             let more = random.between(1, 4) as usize;
             words.extend(random.words(more));
         }
-        _ => words.truncate(random.below(4) as usize),
+        _ => words.truncate(random.below(HEAD_WORDS as u64 + 1) as usize),
     }
+}
+
+/// A word of a replica that may be too short for it.
+fn word(words: &[u64], at: usize) -> u64 {
+    words.get(at).copied().unwrap_or(0)
+}
+
+/// p, n and c of a card's entry, the same way.
+fn entry(words: &[u64], cards: usize, counter: usize, card: usize) -> [u64; ENTRY_WORDS] {
+    let at = entry_at(cards, counter, card).start;
+    core::array::from_fn(|part| word(words, at + part))
 }
 
 /// A counter number, mostly below k.
 pub fn counter(random: &mut Random, words: &[u64]) -> u64 {
-    let counters = words.get(1).copied().unwrap_or(1).clamp(1, 64);
+    let counters = word(words, COUNTERS_AT).clamp(1, COUNTERS);
     match random.below(12) {
         0 => counters,
         1 => random.pick(&EDGES),
@@ -165,7 +184,7 @@ pub fn message(random: &mut Random) -> Message {
     } else {
         let mut entries = Entries::new();
         let density = random.pick(&[0, 20, 55, 100]);
-        for card in 0..MAX_CARDS as u32 {
+        for card in 0..MOST_CARDS as u32 {
             if random.percent(density) {
                 let c = from_one(random, MAX);
                 entries.push(Entry { card, p: from_one(random, c), c });
@@ -174,9 +193,9 @@ pub fn message(random: &mut Random) -> Message {
         Body::Clear(entries)
     };
     Message {
-        sender: random.below(MAX_CARDS as u64) as u32,
+        sender: random.below(CARDS) as u32,
         sequence: from_one(random, MAX),
-        counter: random.below(MAX_COUNTERS as u64) as u32,
+        counter: random.below(COUNTERS) as u32,
         body,
     }
 }
@@ -202,7 +221,7 @@ impl Draft {
         }
         bytes.extend(self.sequence.to_be_bytes());
         bytes.extend(self.counter.to_be_bytes());
-        if self.kind == 1 {
+        if self.kind == MESSAGE_INCREMENT {
             bytes.extend(self.p.to_be_bytes());
             bytes.extend(self.start.to_be_bytes());
         } else {
@@ -219,17 +238,16 @@ impl Draft {
 
 /// A message that a card of this replica's chassis might send it, mostly acceptable.
 pub fn draft(random: &mut Random, words: &[u64]) -> Draft {
-    let word = |at: usize| words.get(at).copied().unwrap_or(0);
-    let cards = word(0).clamp(1, 16) as usize;
-    let own = word(2) as usize % cards;
+    let cards = word(words, CARDS_AT).clamp(1, CARDS) as usize;
+    let own = word(words, OWN_AT) as usize % cards;
     let sender = match random.below(20) {
-        0 => random.below(18) as usize,
+        0 => random.below(CARDS + 2) as usize,
         1 => own,
         _ if cards == 1 => own,
         _ => (own + random.between(1, cards as u64 - 1) as usize) % cards,
     };
-    let increments = word(3 + sender);
-    let messages = word(3 + cards + sender);
+    let increments = word(words, increments_at(sender));
+    let messages = word(words, messages_at(cards, sender));
     let sequence = match random.below(24) {
         0 => messages,
         1 => messages.wrapping_add(2),
@@ -237,10 +255,10 @@ pub fn draft(random: &mut Random, words: &[u64]) -> Draft {
         _ => messages.wrapping_add(1),
     };
     let counter = counter(random, words) as u32;
-    let cell = 3 + 2 * cards + 3 * (cards * (counter as usize % 64) + sender);
+    let [senders_p, ..] = entry(words, cards, counter as usize % MOST_COUNTERS, sender);
     let mut draft = Draft {
-        version: if random.percent(1) { 2 } else { 1 },
-        kind: random.between(1, 2) as u32,
+        version: if random.percent(1) { MESSAGE_VERSION + 1 } else { MESSAGE_VERSION },
+        kind: random.pick(&[MESSAGE_INCREMENT, MESSAGE_CLEAR]),
         sender: sender as u32,
         sequence,
         counter,
@@ -248,7 +266,7 @@ pub fn draft(random: &mut Random, words: &[u64]) -> Draft {
         start: 0,
         entries: Vec::new(),
     };
-    if draft.kind == 1 {
+    if draft.kind == MESSAGE_INCREMENT {
         draft.start = random.below(2) as u32;
         let next = increments.wrapping_add(1);
         draft.p = match random.below(12) {
@@ -256,7 +274,7 @@ pub fn draft(random: &mut Random, words: &[u64]) -> Draft {
             1 => random.pick(&EDGES),
             2 => 1,
             _ if draft.start == 1 => next,
-            3..=7 => word(cell).wrapping_add(1),
+            3..=7 => senders_p.wrapping_add(1),
             _ => random.between(2.min(next), next),
         };
     } else {
@@ -279,11 +297,9 @@ fn clear_entry(
     card: usize,
     known: bool,
 ) -> (u32, u64, u64) {
-    let word = |at: usize| words.get(at).copied().unwrap_or(0);
-    let cards = word(0).clamp(1, 16) as usize;
-    let increments = word(3 + card).min(MAX);
-    let at = 3 + 2 * cards + 3 * (cards * (counter % 64) + card);
-    let (p, c) = (word(at), word(at + 2));
+    let cards = word(words, CARDS_AT).clamp(1, CARDS) as usize;
+    let increments = word(words, increments_at(card)).min(MAX);
+    let [p, _, c] = entry(words, cards, counter % MOST_COUNTERS, card);
     if p != 0 && (!known || c <= increments) && random.percent(40) {
         return (card as u32, p, c);
     }
@@ -307,7 +323,7 @@ fn damage_entries(random: &mut Random, entries: &mut Vec<(u32, u64, u64)>) {
     }
     let at = random.below(entries.len() as u64) as usize;
     match random.below(6) {
-        0 => entries[at].0 = random.between(0, 17) as u32,
+        0 => entries[at].0 = random.between(0, CARDS + 1) as u32,
         1 => entries[at].1 = random.pick(&EDGES),
         2 => entries[at].2 = random.pick(&EDGES),
         3 => entries[at].1 = entries[at].2 + 1,

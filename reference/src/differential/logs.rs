@@ -26,6 +26,11 @@ pub fn random_logs(seed: u64, cases: u64) -> Tally {
     tally
 }
 
+/// Panics unless messages waited, and did not.
+pub fn require_all(tally: &Tally) {
+    tally.require("waiting", WAITING);
+}
+
 fn log(random: &mut Random) -> Vec<u8> {
     let mut log = Vec::new();
     for _ in 0..random.below(9) {

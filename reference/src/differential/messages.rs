@@ -2,17 +2,15 @@
 
 use super::{generate, Guarded, Place, Tally};
 use crate::library::{self, MessageReading, Written};
-use crate::limits::{MAX_CARDS, UNREADABLE};
-use crate::message::{
-    self, Body, Entries, Entry, Message, KIND_CLEAR, KIND_INCREMENT, LONGEST, VERSION,
-};
+use crate::limits::*;
+use crate::message::{self, Body, Entries, Entry, Message};
 use crate::random::Random;
 
 /// Numbers that each call can give.
-pub const READ: &[u64] = &[0, 6];
-pub const WRITE: &[u64] = &[0, 5, 6];
+pub const READ: &[u64] = &[OK, UNREADABLE];
+pub const WRITE: &[u64] = &[OK, SHORT_OUTPUT, UNREADABLE];
 /// What writing gives where one field takes every edge and there is room.
-pub const FIELD: &[u64] = &[0, 6];
+pub const FIELD: &[u64] = &[OK, UNREADABLE];
 
 type Set<T> = (&'static str, fn(&mut T, u64));
 
@@ -36,17 +34,22 @@ pub const ENTRY_FIELDS: [Set<Entry>; 3] = [
 /// The header's struct for a message: what its kind does not use is 0.
 pub fn form_of(message: &Message) -> library::Message {
     let Message { sender, sequence, counter, body } = *message;
-    let mut form =
-        library::Message { version: VERSION, sender, sequence, counter, ..Default::default() };
+    let mut form = library::Message {
+        version: MESSAGE_VERSION,
+        sender,
+        sequence,
+        counter,
+        ..Default::default()
+    };
     match body {
         Body::Increment { p, start } => {
-            form.kind = KIND_INCREMENT;
+            form.kind = MESSAGE_INCREMENT;
             form.p = p;
             form.start = u32::from(start);
         }
         Body::Clear(entries) => {
             let list = entries.as_slice();
-            form.kind = KIND_CLEAR;
+            form.kind = MESSAGE_CLEAR;
             form.len = list.len();
             form.entries[..list.len()].copy_from_slice(list);
         }
@@ -57,8 +60,10 @@ pub fn form_of(message: &Message) -> library::Message {
 /// The message that a struct is the one form of, its numbers in range or not.
 fn message_of(form: &library::Message) -> Option<Message> {
     let body = match form.kind {
-        KIND_INCREMENT if form.start <= 1 => Body::Increment { p: form.p, start: form.start == 1 },
-        KIND_CLEAR if form.len <= MAX_CARDS => {
+        MESSAGE_INCREMENT if form.start <= 1 => {
+            Body::Increment { p: form.p, start: form.start == 1 }
+        }
+        MESSAGE_CLEAR if form.len <= MOST_CARDS => {
             let mut entries = Entries::new();
             form.entries[..form.len].iter().for_each(|entry| entries.push(*entry));
             Body::Clear(entries)
@@ -73,7 +78,7 @@ fn message_of(form: &library::Message) -> Option<Message> {
 /// What the library answers where the reference reads this.
 pub fn reading(message: Option<Message>) -> MessageReading {
     match message {
-        Some(message) => MessageReading { number: 0, message: form_of(&message) },
+        Some(message) => MessageReading { number: OK, message: form_of(&message) },
         None => MessageReading { number: UNREADABLE, ..Default::default() },
     }
 }
@@ -85,7 +90,7 @@ fn write(form: &library::Message, out: &mut [u8]) -> Written {
         None => Err(UNREADABLE),
     };
     match answer {
-        Ok(length) => Written { number: 0, length },
+        Ok(length) => Written { number: OK, length },
         Err(number) => Written { number, length: 0 },
     }
 }
@@ -109,39 +114,63 @@ pub fn random_messages(seed: u64, cases: u64) -> Tally {
     tally
 }
 
-/// An increment and every length of clear, each of its fields at every edge; gives what each
-/// field was answered.
-pub fn every_field_at_every_edge() -> Tally {
-    let mut tally = Tally::default();
-    let content = [0xee; LONGEST];
+/// Panics unless both calls gave all of their numbers, and nothing else.
+pub fn require_all(tally: &Tally) {
+    tally.require("read_message", READ);
+    tally.require("write_message", WRITE);
+}
+
+/// An increment and every length of clear, each of its fields at every edge; gives what each field
+/// was answered when written, and when read.
+pub fn every_field_at_every_edge() -> [Tally; 2] {
+    let [mut written, mut read] = [Tally::default(), Tally::default()];
+    let mut compare = |name, form, place: Place| {
+        written.note(name, compare_write(form, &[0xee; LONGEST_MESSAGE], place));
+        read.note(name, compare_read(&bytes_of(&form), place));
+    };
     for base in bases() {
         for number in generate::EDGES {
             for (name, set) in FIELDS {
                 let mut form = base;
                 set(&mut form, number);
-                let place = || format!("{name} {number} in {base:?}");
-                tally.note(name, compare_write(form, &content, &place));
+                compare(name, form, &|| format!("{name} {number} in {base:?}"));
             }
-            for at in 0..MAX_CARDS {
+            for at in 0..MOST_CARDS {
                 for (name, set) in ENTRY_FIELDS {
                     let mut form = base;
                     set(&mut form.entries[at], number);
-                    let place = || format!("{name} {number} at {at} in {base:?}");
-                    tally.note(name, compare_write(form, &content, &place));
+                    compare(name, form, &|| format!("{name} {number} at {at} in {base:?}"));
                 }
             }
         }
     }
-    tally
+    [written, read]
+}
+
+/// The bytes of a struct's fields, in range or not, with at most one entry too many.
+fn bytes_of(form: &library::Message) -> Vec<u8> {
+    let entries = form.entries.iter().cycle().take(form.len.min(MOST_CARDS + 1));
+    let draft = generate::Draft {
+        version: form.version,
+        kind: form.kind,
+        sender: form.sender,
+        sequence: form.sequence,
+        counter: form.counter,
+        p: form.p,
+        start: form.start,
+        entries: entries.map(|entry| (entry.card, entry.p, entry.c)).collect(),
+    };
+    draft.bytes()
 }
 
 fn bases() -> Vec<library::Message> {
-    let header = library::Message { version: VERSION, sequence: 9, ..Default::default() };
-    let mut list = vec![library::Message { kind: KIND_INCREMENT, p: 7, ..header }];
-    for len in 0..=MAX_CARDS {
-        let mut clear = library::Message { kind: KIND_CLEAR, len, ..header };
+    let header = library::Message { version: MESSAGE_VERSION, sequence: 9, ..Default::default() };
+    let mut list = vec![library::Message { kind: MESSAGE_INCREMENT, p: 7, ..header }];
+    for len in 0..=MOST_CARDS {
+        let mut clear = library::Message { kind: MESSAGE_CLEAR, len, ..header };
         for (card, entry) in clear.entries[..len].iter_mut().enumerate() {
-            *entry = Entry { card: card as u32, p: 2, c: 17 };
+            // p takes numbers on both sides of c.
+            *entry = Entry { card: card as u32, p: 2, c: MOST_CARDS as u64 + 1 };
         }
         list.push(clear);
     }
@@ -153,10 +182,10 @@ fn compare_read(bytes: &[u8], place: Place) -> u64 {
     let theirs = library::read_message(lent.get());
     assert_eq!(reading(message::read(bytes)), theirs, "{bytes:?}: {}", place());
     assert_eq!(lent, Guarded::new(bytes), "reading wrote: {}", place());
-    if theirs.number == 0 {
-        let mut out = [0; LONGEST];
+    if theirs.number == OK {
+        let mut out = [0; LONGEST_MESSAGE];
         let written = library::write_message(theirs.message, &mut out);
-        assert_eq!(written, Written { number: 0, length: bytes.len() }, "{}", place());
+        assert_eq!(written, Written { number: OK, length: bytes.len() }, "{}", place());
         assert_eq!(&out[..written.length], bytes, "{}", place());
     }
     theirs.number
@@ -170,9 +199,9 @@ fn compare_write(form: library::Message, content: &[u8], place: Place) -> u64 {
     assert_eq!(our_out, their_out, "{form:?}: {}", place());
     let (bytes, past) = their_out.get().split_at(theirs.length);
     assert_eq!(past, &content[theirs.length..], "bytes past the message: {}", place());
-    if theirs.number == 0 {
+    if theirs.number == OK {
         let read = library::read_message(bytes);
-        assert_eq!(read, MessageReading { number: 0, message: form }, "{}", place());
+        assert_eq!(read, MessageReading { number: OK, message: form }, "{}", place());
     }
     theirs.number
 }
@@ -180,10 +209,10 @@ fn compare_write(form: library::Message, content: &[u8], place: Place) -> u64 {
 /// The bytes of a message, damaged or not, or any bytes.
 fn bytes(random: &mut Random) -> Vec<u8> {
     if random.percent(5) {
-        let len = random.below(LONGEST as u64 + 20) as usize;
+        let len = random.below(LONGEST_MESSAGE as u64 + 20) as usize;
         return random.bytes(len);
     }
-    let mut out = [0; LONGEST];
+    let mut out = [0; LONGEST_MESSAGE];
     let length = message::write(&generate::message(random), &mut out).expect("in range");
     let mut bytes = out[..length].to_vec();
     for _ in 0..random.pick(&[0, 1, 1, 2]) {
@@ -199,18 +228,18 @@ fn damage_form(random: &mut Random, form: &mut library::Message) {
         1 => random.pick(&generate::EDGES),
         _ => random.below(4),
     };
-    let at = random.below(MAX_CARDS as u64) as usize;
+    let at = random.below(MOST_CARDS as u64) as usize;
     match random.below(8) {
         0..=2 => random.pick(&FIELDS).1(form, number),
         3..=5 => random.pick(&ENTRY_FIELDS).1(&mut form.entries[at], number),
-        6 => form.entries.swap(at, random.below(MAX_CARDS as u64) as usize),
+        6 => form.entries.swap(at, random.below(MOST_CARDS as u64) as usize),
         _ => form.len = form.len.wrapping_add(random.pick(&[1, usize::MAX])),
     }
 }
 
-/// Output for a message of `needed` bytes: too short by one, exact, longer by one, or of any length.
+/// Output for a message of `needed` bytes: short by one, exact, longer by one, or of any length.
 fn room(random: &mut Random, needed: usize) -> Vec<u8> {
-    let any = random.below(LONGEST as u64 + 60) as usize;
+    let any = random.below(LONGEST_MESSAGE as u64 + 60) as usize;
     let len = random.pick(&[needed, needed, needed - 1, needed + 1, 0, any, any]);
     random.bytes(len)
 }

@@ -13,6 +13,7 @@ use std::collections::BTreeMap;
 use std::fmt;
 
 use crate::ledger::Ledger;
+use crate::limits::OK;
 use crate::{library, replica};
 
 /// The seed of a series: YELANSUB_SEED, or the usual one.
@@ -95,7 +96,7 @@ fn against_ledgers(ledgers: &[Ledger], card: usize, words: &[u64], place: Place)
     for (counter, ledger) in ledgers.iter().enumerate() {
         let holders = ledger.holders(card);
         let due = library::Reading {
-            number: 0,
+            number: OK,
             value: ledger.value(card),
             holders,
             holder_count: u64::from(holders.count_ones()),
@@ -109,7 +110,7 @@ fn against_ledgers(ledgers: &[Ledger], card: usize, words: &[u64], place: Place)
 pub fn reading(answer: Result<replica::Reading, u64>) -> library::Reading {
     match answer {
         Ok(read) => library::Reading {
-            number: 0,
+            number: OK,
             value: read.value,
             holders: read.holders,
             holder_count: read.holder_count,
@@ -121,7 +122,7 @@ pub fn reading(answer: Result<replica::Reading, u64>) -> library::Reading {
 /// The reference's answer to count and clear in the library's shape.
 pub fn sent(answer: Result<replica::Sent, u64>) -> library::Sent {
     match answer {
-        Ok(sent) => library::Sent { number: 0, sequence: sent.sequence, length: sent.length },
+        Ok(sent) => library::Sent { number: OK, sequence: sent.sequence, length: sent.length },
         Err(number) => library::Sent { number, ..Default::default() },
     }
 }
@@ -129,11 +130,11 @@ pub fn sent(answer: Result<replica::Sent, u64>) -> library::Sent {
 /// The reference's answer to take in the library's shape.
 pub fn taken(answer: Result<u64, u64>) -> library::Taken {
     match answer {
-        Ok(sequence) => library::Taken { number: 0, sequence },
+        Ok(sequence) => library::Taken { number: OK, sequence },
         Err(number) => library::Taken { number, sequence: 0 },
     }
 }
 
 pub fn number(answer: Result<(), u64>) -> u64 {
-    answer.err().unwrap_or(0)
+    answer.err().unwrap_or(OK)
 }

@@ -10,14 +10,13 @@ use std::fmt::Debug;
 use std::ops::Range;
 
 use super::{against_ledgers, calls, generate, sent, taken, Guarded, Tally};
-use crate::chassis::{Step, CLEAR, COUNT};
+use crate::chassis::Step;
 use crate::ledger::Ledger;
 use crate::library;
 use crate::limits::*;
-use crate::message::{self, Body, Message, EMPTY_CLEAR_BYTES, ENTRY_BYTES, INCREMENT_BYTES};
-use crate::message::{KIND_CLEAR, KIND_INCREMENT, LONGEST, VERSION};
+use crate::message::{self, Body, Message};
 use crate::random::Random;
-use crate::replica::{self, words_of};
+use crate::replica;
 
 /// Histories until `calls` calls have been made. What the end of each adds, messages sent again
 /// and steps replayed, is not among them.
@@ -39,23 +38,25 @@ pub fn histories(seed: u64, calls: u64) -> Tally {
 
 /// Panics unless the series met everything that can happen, and nothing else.
 pub fn require_all(tally: &Tally) {
-    // 4 needs 2^48 - 1 messages of one card first.
-    tally.require("count", &[0, 3, 5]);
-    tally.require("clear", &[0, 3, 5]);
-    tally.require("next", &[0]);
-    tally.require("old", &[8]);
-    tally.require("later", &[9]);
-    tally.require("own", &[7]);
-    tally.require("unharmed", &[0, 7, 8, 9]);
-    tally.require("damaged", &[3, 6, 7, 8, 9, 10]);
-    tally.require("noise", &[6]);
-    tally.require("foreign", &[3, 6, 7]);
-    tally.require("forged", &[0]);
-    tally.require("again", &[8]);
-    tally.require("resent", &[0, 8]);
-    tally.require("cards", &(1..=16).collect::<Vec<_>>());
-    tally.require("counters", &[1, 2, 4, 8, 16, 32, 64]);
-    tally.require("entries", &(0..=16).collect::<Vec<_>>());
+    // EXHAUSTED needs MAX messages of one card first.
+    tally.require("count", &[OK, BAD_COUNTER, SHORT_OUTPUT]);
+    tally.require("clear", &[OK, BAD_COUNTER, SHORT_OUTPUT]);
+    tally.require("next", &[OK]);
+    tally.require("old", &[REPEATED]);
+    tally.require("later", &[EARLY]);
+    tally.require("own", &[BAD_CARD]);
+    tally.require("unharmed", &[OK, BAD_CARD, REPEATED, EARLY]);
+    let damaged = [BAD_COUNTER, UNREADABLE, BAD_CARD, REPEATED, EARLY, IMPLAUSIBLE];
+    tally.require("damaged", &damaged);
+    tally.require("noise", &[UNREADABLE]);
+    tally.require("foreign", &[BAD_COUNTER, UNREADABLE, BAD_CARD]);
+    tally.require("forged", &[OK]);
+    tally.require("again", &[REPEATED]);
+    tally.require("resent", &[OK, REPEATED]);
+    tally.require("cards", &(1..=MOST_CARDS as u64).collect::<Vec<_>>());
+    let doublings = 0..=MOST_COUNTERS.next_power_of_two().ilog2();
+    tally.require("counters", &doublings.map(|power| 1 << power).collect::<Vec<_>>());
+    tally.require("entries", &(0..=MOST_CARDS as u64).collect::<Vec<_>>());
     tally.require("start", &[NO_START, FIRST_START, NEW_START]);
     for holders in 0..3 {
         // Quiet and held: a clear has come before all that it clears.
@@ -82,9 +83,9 @@ impl Cards {
     /// Opened on words that held something else.
     fn open(random: &mut Random, cards: usize, counters: usize) -> Cards {
         let words = (0..cards as u64).map(|card| {
-            let mut words = Guarded::new(&random.words(words_of(cards, counters)));
+            let mut words = Guarded::new(&random.words(replica_words(cards, counters)));
             let number = library::open(words.get_mut(), cards as u64, counters as u64, card);
-            assert_eq!(number, ACCEPTED);
+            assert_eq!(number, OK);
             words
         });
         Cards {
@@ -98,10 +99,10 @@ impl Cards {
     fn call(&mut self, step: Step) -> u64 {
         let (card, second) = (step.first as usize, step.second as usize);
         let words = self.words[card].get_mut();
-        let mut out = [0; LONGEST];
+        let mut out = [0; LONGEST_MESSAGE];
         let sent = match step.kind {
-            COUNT => library::count(words, u64::from(step.second), &mut out),
-            CLEAR => library::clear(words, u64::from(step.second), &mut out),
+            STEP_COUNT => library::count(words, u64::from(step.second), &mut out),
+            STEP_CLEAR => library::clear(words, u64::from(step.second), &mut out),
             _ => {
                 let bytes = &self.written[second][self.received[card][second]];
                 self.received[card][second] += 1;
@@ -151,14 +152,15 @@ struct History<'a> {
 
 impl History<'_> {
     fn new<'a>(random: &mut Random, place: String, tally: &'a mut Tally) -> History<'a> {
+        let any_of = |random: &mut Random, most: usize| random.between(1, most as u64) as usize;
         let (cards, counters) = match random.below(12) {
-            0 => (random.between(1, 16) as usize, random.between(1, 64) as usize),
-            1 => (random.between(1, 16) as usize, 1),
+            0 => (any_of(random, MOST_CARDS), any_of(random, MOST_COUNTERS)),
+            1 => (any_of(random, MOST_CARDS), 1),
             _ => generate::shape(random),
         };
         tally.note("cards", cards as u64);
         tally.note("counters", counters.next_power_of_two() as u64);
-        let mut ours = vec![vec![0; words_of(cards, counters)]; cards];
+        let mut ours = vec![vec![0; replica_words(cards, counters)]; cards];
         for (card, words) in ours.iter_mut().enumerate() {
             replica::open(words, cards as u64, counters as u64, card as u64).expect("right sizes");
         }
@@ -240,7 +242,7 @@ impl History<'_> {
         let due = match counter < self.counters as u64 {
             false => BAD_COUNTER,
             true if content.len() < size => SHORT_OUTPUT,
-            true => ACCEPTED,
+            true => OK,
         };
         self.agree(call.name, theirs.number, due);
         self.agree(call.name, theirs, sent(ours));
@@ -248,17 +250,17 @@ impl History<'_> {
         self.called(call.name, theirs.number, card, before);
         let length = theirs.length as usize;
         self.agree("bytes past the message", &out.get()[length..], &content[length..]);
-        if theirs.number == ACCEPTED {
+        if theirs.number == OK {
             self.agree(call.name, length, size);
             self.wrote(call, card, counter as u32, &out.get()[..length]);
         }
     }
 
-    /// "36 bytes", "28 + 20e bytes": e is the number of holding cards in the ledger.
+    /// A clear has an entry for each holding card of the ledger.
     fn size(&self, call: &Sending, card: usize, counter: u64) -> usize {
         match self.ledgers.get(counter as usize) {
             Some(ledger) if call.name == CLEARS.name => {
-                EMPTY_CLEAR_BYTES + ENTRY_BYTES * ledger.holders(card).count_ones() as usize
+                clear_bytes(ledger.holders(card).count_ones() as usize)
             }
             _ => INCREMENT_BYTES,
         }
@@ -298,7 +300,7 @@ impl History<'_> {
         self.tally.note(what, number);
         let words = &self.theirs.words[card];
         self.agree(what, words, &Guarded::new(&self.ours[card]));
-        if number != ACCEPTED {
+        if number != OK {
             self.agree("words after a refusal", words, &before);
         }
     }
@@ -311,7 +313,7 @@ impl History<'_> {
         let written = read.filter(|message| self.is_written(message, bytes));
         let before = self.ours[card].clone();
         let ours = taken(replica::take(&mut self.ours[card], bytes));
-        if ours.number == ACCEPTED && written.is_none() {
+        if ours.number == OK && written.is_none() {
             self.ours[card] = before;
             self.tally.note("forged", ours.number);
             return None;
@@ -328,11 +330,11 @@ impl History<'_> {
             self.agree(what, theirs.number, REPEATED);
         }
         self.called(what, theirs.number, card, Guarded::new(&before));
-        if let (ACCEPTED, Some(message)) = (theirs.number, written) {
+        if let (OK, Some(message)) = (theirs.number, written) {
             self.theirs.received[card][message.sender as usize] += 1;
             self.accept(Step::deliver(card as u32, message.sender), message.counter);
         }
-        if theirs.number == ACCEPTED || theirs.number == REPEATED {
+        if theirs.number == OK || theirs.number == REPEATED {
             self.known.push((card, bytes.to_vec()));
         }
         Some(theirs.number)
@@ -355,7 +357,7 @@ impl History<'_> {
         } else if message.sequence > received + 1 {
             EARLY
         } else {
-            ACCEPTED
+            OK
         }
     }
 
@@ -430,7 +432,7 @@ impl History<'_> {
     fn hand_over_stray(&mut self, random: &mut Random) {
         let card = self.any_card(random);
         if random.percent(40) {
-            let len = random.below(LONGEST as u64 + 9) as usize;
+            let len = random.below(LONGEST_MESSAGE as u64 + 9) as usize;
             self.take(card, &random.bytes(len), "noise");
         } else {
             let bytes = self.foreign(random, card).bytes();
@@ -441,11 +443,11 @@ impl History<'_> {
     /// Next in sequence, but for a sender, a counter or an entry's card that is not there.
     fn foreign(&self, random: &mut Random, card: usize) -> generate::Draft {
         let (cards, counters) = (self.cards as u64, self.counters as u64);
-        let other_card = random.between(cards, cards.max(15)) as u32;
+        let other_card = random.between(cards, cards.max(MOST_CARDS as u64 - 1)) as u32;
         let sender = self.any_card(random);
         let mut draft = generate::Draft {
-            version: VERSION,
-            kind: random.pick(&[KIND_INCREMENT, KIND_CLEAR]),
+            version: MESSAGE_VERSION,
+            kind: random.pick(&[MESSAGE_INCREMENT, MESSAGE_CLEAR]),
             sender: sender as u32,
             sequence: self.theirs.received[card][sender] as u64 + 1,
             counter: random.below(counters) as u32,
@@ -455,9 +457,12 @@ impl History<'_> {
         };
         match random.below(3) {
             0 => draft.sender = other_card,
-            1 => draft.counter = random.between(counters, counters.max(63)) as u32,
+            1 => {
+                draft.counter =
+                    random.between(counters, counters.max(MOST_COUNTERS as u64 - 1)) as u32
+            }
             _ => {
-                draft.kind = KIND_CLEAR;
+                draft.kind = MESSAGE_CLEAR;
                 draft.entries.push((other_card, 1, 1));
             }
         }
@@ -483,7 +488,7 @@ impl History<'_> {
     fn accepted_steps_alone(&self, random: &mut Random) {
         let mut fresh = Cards::open(random, self.cards, self.counters);
         for (step, _) in &self.accepted {
-            self.agree("an accepted step alone", fresh.call(*step), ACCEPTED);
+            self.agree("an accepted step alone", fresh.call(*step), OK);
         }
         self.agree("words of the accepted steps", &fresh.words, &self.theirs.words);
         self.agree("messages of the accepted steps", &fresh.written, &self.theirs.written);
@@ -494,7 +499,7 @@ impl History<'_> {
         let counter = random.below(self.counters as u64);
         let mut fresh = Cards::open(random, self.cards, self.counters);
         for (step, _) in self.accepted.iter().filter(|step| u64::from(step.1) == counter) {
-            self.agree("a step of one counter alone", fresh.call(*step), ACCEPTED);
+            self.agree("a step of one counter alone", fresh.call(*step), OK);
         }
         for (alone, words) in fresh.words.iter().zip(&self.theirs.words) {
             let (alone, read) =
@@ -516,11 +521,7 @@ impl History<'_> {
             if next < self.theirs.written[sender].len() as u64 {
                 links[at].2 += 1;
                 let number = self.take_written(card, sender, next, "resent");
-                assert!(
-                    [ACCEPTED, REPEATED].contains(&number),
-                    "resent, {number}: {}",
-                    self.place()
-                );
+                assert!([OK, REPEATED].contains(&number), "resent, {number}: {}", self.place());
             } else {
                 links.swap_remove(at);
             }
@@ -555,7 +556,7 @@ impl History<'_> {
     }
 
     fn send_heard(&mut self, call: &Sending, card: usize, counter: u64) {
-        self.send_from(call, card, counter, &[0; LONGEST]);
+        self.send_from(call, card, counter, &[0; LONGEST_MESSAGE]);
         let last = self.theirs.written[card].len() as u64 - 1;
         for other in (0..self.cards).filter(|other| *other != card) {
             self.take_written(other, card, last, "next");
@@ -576,6 +577,6 @@ fn room(random: &mut Random, size: usize) -> usize {
         1 => random.below(size as u64) as usize,
         2 => size - 1,
         3 | 4 => size,
-        _ => LONGEST + random.below(9) as usize,
+        _ => LONGEST_MESSAGE + random.below(9) as usize,
     }
 }

@@ -2,15 +2,16 @@
 //! reference and against the ledger of every counter.
 
 use super::{against_ledgers, generate, number, Guarded, Place, Tally};
-use crate::chassis::{self, Buffers, Step, DELIVER, STEP_BYTES};
+use crate::chassis::{self, Buffers, Step};
 use crate::ledger::Ledger;
 use crate::library;
+use crate::limits::*;
 use crate::random::Random;
-use crate::replica::{received_from, words_of};
+use crate::replica::received_from;
 
-pub const RUN: &[u64] = &[0, 11];
-/// 4 needs 2^48 - 1 messages of one card first.
-pub const STEP: &[u64] = &[0, 3, 7, 12, 13, 14];
+pub const RUN: &[u64] = &[OK, BAD_SIZES];
+/// `EXHAUSTED` needs `MAX` messages of one card first.
+pub const STEP: &[u64] = &[OK, BAD_COUNTER, BAD_CARD, BAD_KIND, NOTHING_WAITING, LOG_FULL];
 
 /// A run of either side, steps given as bytes.
 type Run = fn(u64, u64, u64, &[u8], Buffers) -> u64;
@@ -72,6 +73,13 @@ pub fn random_runs(seed: u64, cases: u64, longest: u64) -> Tally {
     tally
 }
 
+/// Panics unless runs and steps gave all of their numbers, and nothing else.
+pub fn require_all(tally: &Tally) {
+    tally.require("run", RUN);
+    tally.require("records", RUN);
+    tally.require("step", STEP);
+}
+
 fn compare(lent: &Lent, place: Place, tally: &mut Tally) {
     let (mut ours, mut theirs) = (lent.clone(), lent.clone());
     let (our_number, their_number) = (ours.run(reference), theirs.run(library::run));
@@ -86,7 +94,7 @@ fn compare(lent: &Lent, place: Place, tally: &mut Tally) {
         }
         tally.note("records", their_number);
     }
-    if their_number != 0 {
+    if their_number != OK {
         assert!(theirs.same_buffers(lent), "a refused run wrote: {}", place());
         return;
     }
@@ -99,7 +107,8 @@ fn compare(lent: &Lent, place: Place, tally: &mut Tally) {
     for (step, answer) in steps.iter().zip(theirs.answers.get()) {
         feed(&mut ledgers, *step, *answer, cards, place);
     }
-    for (card, words) in theirs.words.get().chunks_exact(words_of(cards, counters)).enumerate() {
+    for (card, words) in theirs.words.get().chunks_exact(replica_words(cards, counters)).enumerate()
+    {
         against_ledgers(&ledgers, card, words, place);
     }
     waiting_in_logs(&theirs, &ledgers[0], place);
@@ -107,12 +116,12 @@ fn compare(lent: &Lent, place: Place, tally: &mut Tally) {
 
 fn feed(ledgers: &mut [Ledger], step: Step, answer: u64, cards: usize, place: Place) {
     let (first, second) = (step.first as usize, step.second as usize);
-    if step.kind == DELIVER && first < cards && second < cards && first != second {
+    if step.kind == STEP_DELIVER && first < cards && second < cards && first != second {
         let waits = ledgers[0].waits(first, second);
-        assert_eq!(answer == 0, waits, "{step:?} answered {answer}: {}", place());
+        assert_eq!(answer == OK, waits, "{step:?} answered {answer}: {}", place());
     }
     for ledger in ledgers {
-        if let Err(trouble) = ledger.feed(step, answer == 0) {
+        if let Err(trouble) = ledger.feed(step, answer == OK) {
             panic!("{trouble}: {}", place());
         }
     }
@@ -122,7 +131,7 @@ fn feed(ledgers: &mut [Ledger], step: Step, answer: u64, cards: usize, place: Pl
 /// it exactly when the ledger's link has something to hand over.
 fn waiting_in_logs(after: &Lent, ledger: &Ledger, place: Place) {
     let (cards, counters) = (after.cards as usize, after.counters as usize);
-    let each = words_of(cards, counters);
+    let each = replica_words(cards, counters);
     let log_bytes = after.log_bytes as usize;
     for receiver in 0..cards {
         let words = &after.words.get()[receiver * each..][..each];
@@ -138,7 +147,7 @@ fn waiting_in_logs(after: &Lent, ledger: &Ledger, place: Place) {
                 let taken = library::take(&mut words, &log[theirs.0..][..theirs.1]);
                 assert_eq!(
                     (taken.number, taken.sequence),
-                    (0, q),
+                    (OK, q),
                     "{receiver} from {sender}: {}",
                     place()
                 );
@@ -160,7 +169,7 @@ fn right_sizes(random: &mut Random, longest: u64) -> Lent {
         cards: cards as u64,
         counters: counters as u64,
         log_bytes: log_bytes as u64,
-        words: Guarded::new(&random.words(cards * words_of(cards, counters))),
+        words: Guarded::new(&random.words(cards * replica_words(cards, counters))),
         logs: Guarded::new(&logs),
         answers: Guarded::new(&random.words(steps.len())),
         steps: steps.iter().flat_map(|step| step.to_bytes()).collect(),
@@ -176,11 +185,12 @@ pub(super) fn list(
 ) -> (Vec<Step>, usize) {
     let len = if random.percent(5) { random.below(3) } else { random.below(longest + 1) };
     let steps = (0..len).map(|_| step(random, cards, counters)).collect();
+    let increment = INCREMENT_BYTES as u64;
     let log_bytes = match random.below(8) {
-        0 => random.below(40),
-        1 => 36 * random.below(6),
+        0 => random.below(increment + 4),
+        1 => increment * random.below(6),
         2 => random.below(400),
-        _ => 40 * longest + random.below(9),
+        _ => (increment + 4) * longest + random.below(9),
     };
     (steps, log_bytes as usize)
 }
@@ -227,8 +237,8 @@ fn foreign_log(random: &mut Random, card: usize, counters: usize, log_bytes: usi
             break;
         }
         let draft = generate::Draft {
-            version: 1,
-            kind: if random.percent(90) { 1 } else { 2 },
+            version: MESSAGE_VERSION,
+            kind: if random.percent(90) { MESSAGE_INCREMENT } else { MESSAGE_CLEAR },
             sender: card as u32,
             sequence,
             counter: random.below(counters as u64) as u32,
@@ -268,15 +278,16 @@ fn wrong_sizes(random: &mut Random, lent: &mut Lent) {
             lent.answers = Guarded::new(&random.words(len));
         }
         6 => {
-            let extra = random.between(1, 11) as usize;
+            let extra = random.between(1, STEP_BYTES as u64 - 1) as usize;
             lent.steps.extend(random.bytes(extra));
         }
         7 => {
             // The log's r times L is 2^64 or more, its low 64 bits the length lent.
-            let shift = lent.cards.trailing_zeros().max(1);
-            lent.cards = 1 << shift.min(4);
-            lent.log_bytes = 1 << (64 - shift.min(4));
-            let words = lent.cards as usize * words_of(lent.cards as usize, lent.counters as usize);
+            let shift = lent.cards.trailing_zeros().clamp(1, MOST_CARDS.ilog2());
+            lent.cards = 1 << shift;
+            lent.log_bytes = 1 << (64 - shift);
+            let words =
+                lent.cards as usize * replica_words(lent.cards as usize, lent.counters as usize);
             lent.words = Guarded::new(&random.words(words));
             lent.logs = Guarded::new(&[]);
         }
@@ -303,7 +314,7 @@ pub fn exhaustive(cards: usize, counters: usize, log_bytes: usize, depth: usize)
     search.lists
 }
 
-fn alphabet(cards: usize, counters: usize) -> Vec<Step> {
+pub fn alphabet(cards: usize, counters: usize) -> Vec<Step> {
     let mut steps = Vec::new();
     for card in 0..cards as u32 {
         for counter in 0..counters as u32 {
@@ -348,7 +359,7 @@ impl Search {
     /// Both runs of the present list, compared; the answers and the words stay for the ledgers.
     fn run(&mut self) -> (Vec<u64>, Vec<u64>) {
         let (r, k, log) = (self.cards as u64, self.counters as u64, self.log_bytes as u64);
-        let each = words_of(self.cards, self.counters);
+        let each = replica_words(self.cards, self.counters);
         let len = self.steps.len() / STEP_BYTES;
         let buffers = || (vec![7u64; self.cards * each], self.foreign.clone(), vec![7u64; len]);
         let (mut words, mut logs, mut answers) = buffers();
@@ -372,7 +383,7 @@ impl Search {
         if let (Some(step), Some(answer)) = (steps_of(&self.steps).last(), answers.last()) {
             feed(&mut ledgers, *step, *answer, self.cards, &place);
         }
-        let each = words_of(self.cards, self.counters);
+        let each = replica_words(self.cards, self.counters);
         for (card, words) in words.chunks_exact(each).enumerate() {
             against_ledgers(&ledgers, card, words, &place);
         }

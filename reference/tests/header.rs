@@ -1,0 +1,59 @@
+//! The constants of `limits` are those of `include/yelansub.h`, and the tests' tables of answers
+//! leave out none of its numbers.
+
+use yelansub_reference::differential::{calls, messages, runs};
+use yelansub_reference::limits;
+
+const HEADER: &str = include_str!("../../include/yelansub.h");
+
+macro_rules! named {
+    ($($name:ident)*) => { &[$((stringify!($name), limits::$name as u64)),*] };
+}
+
+const SIZES: &[(&str, u64)] = named! {
+    MOST_CARDS MOST_COUNTERS MAX INCREMENT_BYTES STEP_BYTES
+    MESSAGE_VERSION MESSAGE_INCREMENT MESSAGE_CLEAR
+    STEP_COUNT STEP_CLEAR STEP_DELIVER
+};
+const ANSWERS: &[(&str, u64)] = named! {
+    OK BAD_REPLICA BAD_ROW BAD_COUNTER EXHAUSTED SHORT_OUTPUT UNREADABLE BAD_CARD REPEATED EARLY
+    IMPLAUSIBLE BAD_SIZES BAD_KIND NOTHING_WAITING LOG_FULL
+};
+/// What the header computes from these. Both sides try the library with it.
+const COMPUTED: [&str; 3] = ["REPLICA_WORDS", "CLEAR_BYTES", "LONGEST_MESSAGE"];
+
+#[test]
+fn the_header_has_the_same_numbers() {
+    let ours = [SIZES, ANSWERS].concat();
+    let mut met = 0;
+    for line in HEADER.lines().filter_map(|line| line.strip_prefix("#define YELANSUB_")) {
+        let (name, rest) = line.split_once([' ', '(']).unwrap_or((line, ""));
+        if name == "H" || COMPUTED.contains(&name) {
+            continue;
+        }
+        let number = rest.trim().trim_start_matches("UINT64_C(");
+        let number = number.split([' ', ')']).next().expect("a first word");
+        let theirs: u64 = number.parse().unwrap_or_else(|_| panic!("{name} is {rest}"));
+        let ours = ours.iter().find(|(of, _)| *of == name);
+        assert_eq!(ours, Some(&(name, theirs)), "limits.rs and yelansub.h");
+        met += 1;
+    }
+    assert_eq!(met, ours.len(), "limits.rs has what yelansub.h has not");
+}
+
+#[test]
+fn every_answer_is_given_by_some_call() {
+    let calls = [calls::OPEN, calls::READ, calls::SEND, calls::TAKE].concat();
+    let others = [messages::READ, messages::WRITE, runs::RUN, runs::STEP].concat();
+    for (name, number) in ANSWERS {
+        assert!(calls.contains(number) || others.contains(number), "{name}");
+    }
+}
+
+#[test]
+fn every_kind_of_step_is_tried() {
+    let steps = runs::alphabet(2, 1);
+    for kind in limits::STEP_KINDS {
+        assert!(steps.iter().any(|step| step.kind == kind), "{kind}");
+    }
+}

@@ -1,0 +1,550 @@
+//! Every limit of document 01 at its edge and one past it, with all else fitting: the library and
+//! the reference both give the number due, and a refusal leaves everything as it was.
+
+use std::fmt::Debug;
+
+use yelansub_reference::chassis::{self, Buffers, Step};
+use yelansub_reference::differential::generate::Draft;
+use yelansub_reference::differential::{number, reading, sent, taken};
+use yelansub_reference::limits::*;
+use yelansub_reference::replica::{self, entry_at, increments_at, messages_at};
+use yelansub_reference::replica::{CARDS_AT, COUNTERS_AT, OWN_AT};
+use yelansub_reference::{library, message};
+
+const CARDS: u64 = MOST_CARDS as u64;
+const COUNTERS: u64 = MOST_COUNTERS as u64;
+
+// ---- a call on both sides, from the same words and bytes
+
+/// Both sides' answers are the same, and so is what they leave; that is `before` after a refusal.
+fn agree<A: PartialEq + Debug, W: PartialEq + Debug>(
+    what: &dyn Debug,
+    answers: [A; 2],
+    number: u64,
+    after: [&W; 2],
+    before: &W,
+) -> u64 {
+    assert_eq!(answers[0], answers[1], "{what:?}");
+    assert_eq!(after[0], after[1], "{what:?}");
+    assert!(number == OK || after[0] == before, "{what:?} was refused with {number} and wrote");
+    number
+}
+
+fn open(len: usize, cards: u64, counters: u64, own: u64) -> u64 {
+    let before = vec![9; len];
+    let (mut ours, mut theirs) = (before.clone(), before.clone());
+    let answer = library::open(&mut theirs, cards, counters, own);
+    let due = number(replica::open(&mut ours, cards, counters, own));
+    let what = (len, cards, counters, own);
+    agree(&what, [answer, due], answer, [&theirs, &ours], &before)
+}
+
+fn read(words: &[u64], counter: u64) -> library::Reading {
+    let answer = library::read(words, counter);
+    assert_eq!(answer, reading(replica::read(words, counter)));
+    answer
+}
+
+type Library = fn(&mut [u64], u64, &mut [u8]) -> library::Sent;
+type Reference = fn(&mut [u64], u64, &mut [u8]) -> Result<replica::Sent, u64>;
+const COUNT: (Library, Reference) = (library::count, replica::count);
+const CLEAR: (Library, Reference) = (library::clear, replica::clear);
+
+/// With an output of `room` bytes.
+fn send(
+    call: (Library, Reference),
+    words: &mut Vec<u64>,
+    counter: u64,
+    room: usize,
+) -> library::Sent {
+    let before = (words.clone(), vec![9; room]);
+    let (mut ours, mut theirs) = (before.clone(), before.clone());
+    let answer = call.0(&mut theirs.0, counter, &mut theirs.1);
+    let due = sent(call.1(&mut ours.0, counter, &mut ours.1));
+    agree(&(counter, room), [answer, due], answer.number, [&theirs, &ours], &before);
+    *words = theirs.0;
+    answer
+}
+
+fn take(words: &mut Vec<u64>, bytes: &[u8]) -> u64 {
+    let before = words.clone();
+    let (mut ours, mut theirs) = (before.clone(), before.clone());
+    let answer = library::take(&mut theirs, bytes);
+    let due = taken(replica::take(&mut ours, bytes));
+    agree(&bytes, [answer, due], answer.number, [&theirs, &ours], &before);
+    *words = theirs;
+    answer.number
+}
+
+/// The run's number and the steps' answers; the run over records is the same.
+fn run(cards: u64, counters: u64, log_bytes: usize, steps: &[Step]) -> (u64, Vec<u64>) {
+    let bytes: Vec<u8> = steps.iter().flat_map(|step| step.to_bytes()).collect();
+    let (r, k, log) = (cards as usize, counters as usize, log_bytes as u64);
+    let before = (vec![9; r * replica_words(r, k)], vec![9; r * log_bytes], vec![9; steps.len()]);
+    let on = |call: &dyn Fn(Buffers) -> u64| {
+        let mut lent = before.clone();
+        let buffers = Buffers { words: &mut lent.0, logs: &mut lent.1, answers: &mut lent.2 };
+        (call(buffers), lent)
+    };
+    let theirs = on(&|lent| library::run(cards, counters, log, &bytes, lent));
+    let records = on(&|lent| library::run_records(cards, counters, log, steps, lent));
+    let ours = on(&|lent| number(chassis::run(cards, counters, log, &bytes, lent)));
+    assert_eq!(theirs, records, "{steps:?}");
+    agree(&(cards, counters, steps), [theirs.0, ours.0], theirs.0, [&theirs.1, &ours.1], &before);
+    (theirs.0, theirs.1 .2)
+}
+
+// ---- r, k and the own card
+
+/// r, k and own card at every edge, and whether they are those of a replica.
+fn heads() -> Vec<([u64; 3], bool)> {
+    let mut list = Vec::new();
+    for cards in [0, 1, 2, CARDS - 1, CARDS, CARDS + 1] {
+        for counters in [0, 1, 2, COUNTERS - 1, COUNTERS, COUNTERS + 1] {
+            for own in [0, cards.saturating_sub(1), cards, cards + 1, u64::MAX] {
+                let right = cards <= CARDS && (1..=COUNTERS).contains(&counters) && own < cards;
+                list.push(([cards, counters, own], right));
+            }
+        }
+    }
+    list
+}
+
+#[test]
+fn a_replica_is_opened_within_the_limits_and_with_its_length() {
+    for ([cards, counters, own], right) in heads() {
+        let len = replica_words(cards as usize, counters as usize);
+        let due = if right { OK } else { BAD_REPLICA };
+        assert_eq!(open(len, cards, counters, own), due, "{cards} {counters} {own}");
+        assert_eq!(open(len - 1, cards, counters, own), BAD_REPLICA);
+        assert_eq!(open(len + 1, cards, counters, own), BAD_REPLICA);
+    }
+}
+
+#[test]
+fn words_are_a_replica_within_the_limits_and_with_its_length() {
+    for ([cards, counters, own], right) in heads() {
+        let len = replica_words(cards as usize, counters as usize);
+        let mut words = vec![0; len];
+        (words[CARDS_AT], words[COUNTERS_AT], words[OWN_AT]) = (cards, counters, own);
+        let due = if right { OK } else { BAD_REPLICA };
+        assert_eq!(read(&words, 0).number, due, "{cards} {counters} {own}");
+        assert_eq!(send(COUNT, &mut words.clone(), 0, LONGEST_MESSAGE).number, due);
+        assert_eq!(send(CLEAR, &mut words.clone(), 0, LONGEST_MESSAGE).number, due);
+        let due = if right { UNREADABLE } else { BAD_REPLICA };
+        assert_eq!(take(&mut words, &[]), due);
+        words.push(0);
+        assert_eq!(read(&words, 0).number, BAD_REPLICA);
+        words.truncate(len - 1);
+        assert_eq!(read(&words, 0).number, BAD_REPLICA);
+    }
+}
+
+#[test]
+fn a_run_is_within_the_limits() {
+    for ([cards, counters, own], _) in heads() {
+        let right = (1..=CARDS).contains(&cards) && (1..=COUNTERS).contains(&counters);
+        if own == 0 {
+            let due = if right { OK } else { BAD_SIZES };
+            assert_eq!(run(cards, counters, 0, &[]).0, due, "{cards} {counters}");
+        }
+    }
+}
+
+// ---- counters, rows and sequences
+
+/// Card 1 of three on two counters. Every card has made ten messages, five of them increments.
+fn replica_of_three() -> Vec<u64> {
+    let mut words = vec![0; replica_words(3, 2)];
+    assert_eq!(library::open(&mut words, 3, 2, 1), OK);
+    for card in 0..3 {
+        words[increments_at(card)] = 5;
+        words[messages_at(3, card)] = 10;
+        for counter in 0..2 {
+            words[entry_at(3, counter, card)].copy_from_slice(&[3, 1, 4]);
+        }
+    }
+    words
+}
+
+/// The next message of card 0 on that replica, an increment.
+fn next_of_card_0() -> Draft {
+    Draft {
+        version: MESSAGE_VERSION,
+        kind: MESSAGE_INCREMENT,
+        sender: 0,
+        sequence: 11,
+        counter: 0,
+        p: 4,
+        start: 0,
+        entries: Vec::new(),
+    }
+}
+
+fn next_clear_of_card_0(entries: &[(u32, u64, u64)]) -> Draft {
+    Draft { kind: MESSAGE_CLEAR, entries: entries.to_vec(), ..next_of_card_0() }
+}
+
+#[test]
+fn counters_below_k() {
+    for (counter, due) in [(0, OK), (1, OK), (2, BAD_COUNTER), (u64::MAX, BAD_COUNTER)] {
+        let words = replica_of_three();
+        assert_eq!(read(&words, counter).number, due);
+        assert_eq!(send(COUNT, &mut words.clone(), counter, LONGEST_MESSAGE).number, due);
+        assert_eq!(send(CLEAR, &mut words.clone(), counter, LONGEST_MESSAGE).number, due);
+    }
+    for (counter, due) in [(1, OK), (2, BAD_COUNTER), (COUNTERS - 1, BAD_COUNTER)] {
+        let draft = Draft { counter: counter as u32, ..next_of_card_0() };
+        assert_eq!(take(&mut replica_of_three(), &draft.bytes()), due, "{counter}");
+    }
+}
+
+/// Every call on counter 0 after the changes finds its row well-formed, or none does. Counter 1's
+/// row has kept its entries: it is as well-formed as C and N are.
+fn row(changes: &[(usize, u64)], well_formed: bool) {
+    let mut words = replica_of_three();
+    for (at, word) in changes {
+        words[*at] = *word;
+    }
+    let due = if well_formed { OK } else { BAD_ROW };
+    assert_eq!(read(&words, 0).number, due, "{changes:?}");
+    for call in [COUNT, CLEAR] {
+        let number = send(call, &mut words.clone(), 0, LONGEST_MESSAGE).number;
+        // The own N may be MAX.
+        assert!(number == due || (well_formed && number == EXHAUSTED), "{changes:?}: {number}");
+    }
+    let number = take(&mut words.clone(), &next_of_card_0().bytes());
+    assert_eq!(number == BAD_ROW, !well_formed, "{changes:?}: {number}");
+    let of_entries = changes.iter().filter(|(at, _)| *at >= entry_at(3, 0, 0).start).count();
+    let due = if of_entries == 0 { due } else { OK };
+    assert_eq!(read(&words, 1).number, due, "{changes:?}");
+}
+
+#[test]
+fn well_formed_rows() {
+    row(&[], true);
+    for card in 0..3 {
+        let (increments, messages) = (increments_at(card), messages_at(3, card));
+        let at = entry_at(3, 0, card).start;
+        let (p, n, c) = (at, at + 1, at + 2);
+        row(&[(messages, MAX)], true);
+        row(&[(messages, MAX + 1)], false);
+        row(&[(messages, u64::MAX)], false);
+        row(&[(increments, 10)], true);
+        row(&[(increments, 11)], false);
+        row(&[(increments, MAX), (messages, MAX)], true);
+        row(&[(increments, MAX + 1), (messages, MAX + 1)], false);
+        row(&[(n, 0)], true);
+        row(&[(n, 3)], true);
+        row(&[(n, 4)], false);
+        row(&[(p, 1)], true);
+        row(&[(p, 0)], false);
+        row(&[(p, 0), (n, 0)], false);
+        row(&[(p, 0), (n, 0), (c, 0)], true);
+        row(&[(p, 0), (c, 0)], false);
+        row(&[(p, 4)], true);
+        row(&[(p, 5)], false);
+        row(&[(c, 3)], true);
+        row(&[(c, 2)], false);
+        // The own entry does not pass the own C; others' may.
+        let own = card == 1;
+        row(&[(c, 5)], true);
+        row(&[(c, 6)], !own);
+        row(&[(c, MAX)], !own);
+        row(&[(p, MAX), (c, MAX)], !own);
+        row(&[(c, MAX + 1)], false);
+        row(&[(p, MAX), (n, MAX), (c, MAX), (increments, MAX), (messages, MAX)], true);
+        row(&[(c, MAX + 1), (increments, MAX), (messages, MAX)], false);
+    }
+}
+
+#[test]
+fn the_last_message_of_a_card() {
+    for call in [COUNT, CLEAR] {
+        let mut words = replica_of_three();
+        words[messages_at(3, 1)] = MAX - 1;
+        let last = send(call, &mut words, 0, LONGEST_MESSAGE);
+        assert_eq!((last.number, last.sequence), (OK, MAX));
+        assert_eq!(send(COUNT, &mut words, 0, LONGEST_MESSAGE).number, EXHAUSTED);
+        assert_eq!(send(CLEAR, &mut words, 0, LONGEST_MESSAGE).number, EXHAUSTED);
+        assert_eq!(read(&words, 0).number, OK);
+        // 4 comes before 5.
+        assert_eq!(send(call, &mut words, 0, 0).number, EXHAUSTED);
+    }
+}
+
+#[test]
+fn the_last_increment_of_a_card() {
+    let mut words = replica_of_three();
+    (words[increments_at(1)], words[messages_at(3, 1)]) = (MAX - 1, MAX - 1);
+    words[entry_at(3, 0, 1)].copy_from_slice(&[MAX - 1, 0, MAX - 1]);
+    assert_eq!(send(COUNT, &mut words, 0, INCREMENT_BYTES).number, OK);
+    assert_eq!(words[entry_at(3, 0, 1)], [MAX, 0, MAX]);
+    assert_eq!(words[increments_at(1)], MAX);
+    assert_eq!(read(&words, 0).number, OK);
+}
+
+#[test]
+fn sequences_taken() {
+    let take_numbered = |received: u64, sequence: u64| {
+        let mut words = replica_of_three();
+        words[messages_at(3, 0)] = received;
+        take(&mut words, &Draft { sequence, ..next_of_card_0() }.bytes())
+    };
+    assert_eq!(take_numbered(10, 0), UNREADABLE);
+    assert_eq!(take_numbered(10, 1), REPEATED);
+    assert_eq!(take_numbered(10, 10), REPEATED);
+    assert_eq!(take_numbered(10, 11), OK);
+    assert_eq!(take_numbered(10, 12), EARLY);
+    assert_eq!(take_numbered(10, MAX), EARLY);
+    assert_eq!(take_numbered(10, MAX + 1), UNREADABLE);
+    assert_eq!(take_numbered(MAX - 1, MAX), OK);
+    assert_eq!(take_numbered(MAX - 2, MAX), EARLY);
+    assert_eq!(take_numbered(MAX, MAX), REPEATED);
+    assert_eq!(take_numbered(MAX, MAX + 1), UNREADABLE);
+}
+
+// ---- fields of a message
+
+#[test]
+fn senders_taken() {
+    // A sender that is not there, and one that no message can have.
+    for cards in [2, MOST_CARDS - 1, MOST_CARDS] {
+        let mut words = vec![0; replica_words(cards, 1)];
+        assert_eq!(library::open(&mut words, cards as u64, 1, 0), OK);
+        let mut take_from = |sender: usize| {
+            let draft = Draft { sequence: 1, p: 1, start: 1, ..next_of_card_0() };
+            take(&mut words, &Draft { sender: sender as u32, ..draft }.bytes())
+        };
+        assert_eq!(take_from(0), BAD_CARD);
+        assert_eq!(take_from(cards - 1), OK);
+        let past = if cards < MOST_CARDS { BAD_CARD } else { UNREADABLE };
+        assert_eq!(take_from(cards), past);
+        assert_eq!(take_from(MOST_CARDS), UNREADABLE);
+        assert_eq!(take_from(u32::MAX as usize), UNREADABLE);
+    }
+}
+
+#[test]
+fn fields_that_no_message_has() {
+    let next = next_of_card_0;
+    let clear = next_clear_of_card_0;
+    let cards = MOST_CARDS as u32;
+    assert_eq!(take(&mut replica_of_three(), &next().bytes()), OK);
+    assert_eq!(take(&mut replica_of_three(), &clear(&[(0, 1, 1)]).bytes()), OK);
+    let wrong = [
+        Draft { version: MESSAGE_VERSION - 1, ..next() },
+        Draft { version: MESSAGE_VERSION + 1, ..next() },
+        Draft { kind: 0, ..clear(&[]) },
+        Draft { kind: MESSAGE_CLEAR + 1, ..clear(&[]) },
+        Draft { counter: MOST_COUNTERS as u32, ..next() },
+        Draft { p: 0, ..next() },
+        Draft { p: MAX + 1, ..next() },
+        Draft { start: 2, ..next() },
+        clear(&[(cards, 1, 1)]),
+        clear(&[(0, 0, 1)]),
+        clear(&[(0, 0, 0)]),
+        clear(&[(0, 2, 1)]),
+        clear(&[(2, 1, MAX + 1)]),
+        clear(&[(2, MAX + 1, MAX + 1)]),
+        clear(&[(0, 1, 1), (0, 1, 1)]),
+        clear(&[(1, 1, 1), (0, 1, 1)]),
+    ];
+    for draft in wrong {
+        assert_eq!(take(&mut replica_of_three(), &draft.bytes()), UNREADABLE, "{draft:?}");
+        assert_eq!(message::read(&draft.bytes()), None);
+        assert_eq!(library::read_message(&draft.bytes()).number, UNREADABLE, "{draft:?}");
+    }
+}
+
+#[test]
+fn increments_that_can_come_next() {
+    // C of the sender, then p and start.
+    let take_increment = |increments: u64, p: u64, start: u32| {
+        let mut words = replica_of_three();
+        (words[increments_at(0)], words[messages_at(3, 0)]) = (increments, increments);
+        let sequence = increments + 1;
+        take(&mut words, &Draft { sequence, p, start, ..next_of_card_0() }.bytes())
+    };
+    for increments in [5, MAX - 1] {
+        let next = increments + 1;
+        let past = if next == MAX { UNREADABLE } else { IMPLAUSIBLE };
+        assert_eq!(take_increment(increments, next - 1, 1), IMPLAUSIBLE);
+        assert_eq!(take_increment(increments, next, 1), OK);
+        assert_eq!(take_increment(increments, next + 1, 1), past);
+        assert_eq!(take_increment(increments, 1, 0), IMPLAUSIBLE);
+        assert_eq!(take_increment(increments, 2, 0), OK);
+        assert_eq!(take_increment(increments, next, 0), OK);
+        assert_eq!(take_increment(increments, next + 1, 0), past);
+    }
+    assert_eq!(take_increment(0, 1, 1), OK);
+    assert_eq!(take_increment(0, 1, 0), IMPLAUSIBLE);
+    assert_eq!(take_increment(5, MAX, 1), IMPLAUSIBLE);
+}
+
+#[test]
+fn clears_that_can_come_next() {
+    let take_clear = |card: u32, p: u64, c: u64| {
+        take(&mut replica_of_three(), &next_clear_of_card_0(&[(card, p, c)]).bytes())
+    };
+    // C of the sender and of the own card is 5, and nobody can have heard of more.
+    for known in [0, 1] {
+        assert_eq!(take_clear(known, 5, 5), OK);
+        assert_eq!(take_clear(known, 1, 6), IMPLAUSIBLE);
+        assert_eq!(take_clear(known, MAX, MAX), IMPLAUSIBLE);
+    }
+    assert_eq!(take_clear(2, 1, 6), OK);
+    assert_eq!(take_clear(2, MAX, MAX), OK);
+    assert_eq!(take_clear(2, MAX, MAX + 1), UNREADABLE);
+    assert_eq!(take_clear(3, 1, 1), BAD_CARD);
+    assert_eq!(take_clear(MOST_CARDS as u32 - 1, 1, 1), BAD_CARD);
+    assert_eq!(take_clear(MOST_CARDS as u32, 1, 1), UNREADABLE);
+}
+
+/// Every number of entries that a clear can have, and one more: made, too long for an output that
+/// is a byte too short, and taken.
+#[test]
+fn entries_of_a_clear() {
+    for entries in 0..=MOST_CARDS {
+        let mut cards: Vec<Vec<u64>> = (0..MOST_CARDS as u64)
+            .map(|own| {
+                let mut words = vec![0; replica_words(MOST_CARDS, MOST_COUNTERS)];
+                assert_eq!(library::open(&mut words, CARDS, COUNTERS, own), OK);
+                words
+            })
+            .collect();
+        let counter = COUNTERS - 1;
+        let words = &mut cards[0];
+        for card in 0..entries {
+            (words[increments_at(card)], words[messages_at(MOST_CARDS, card)]) = (1, 1);
+            words[entry_at(MOST_CARDS, counter as usize, card)].copy_from_slice(&[1, 0, 1]);
+        }
+        let read = read(words, counter);
+        assert_eq!((read.value, read.holder_count), (entries as u64, entries as u64));
+        assert_eq!(read.holders, (1 << entries) - 1);
+        let length = clear_bytes(entries);
+        assert_eq!(send(CLEAR, &mut words.clone(), counter, length - 1).number, SHORT_OUTPUT);
+        let mut bytes = vec![0; length];
+        let made = library::clear(&mut words.clone(), counter, &mut bytes);
+        assert_eq!((made.number, made.length), (OK, length as u64));
+        assert_eq!(send(CLEAR, words, counter, length), made);
+        // Card 1, where it has had nothing but card 0's counts.
+        let words = &mut cards[1];
+        words[messages_at(MOST_CARDS, 0)] = made.sequence - 1;
+        words[increments_at(0)] = made.sequence - 1;
+        (words[increments_at(1)], words[messages_at(MOST_CARDS, 1)]) = (1, 1);
+        assert_eq!(take(words, &bytes), OK, "{entries} entries");
+    }
+    let one_more: Vec<_> = (0..=MOST_CARDS as u32).map(|card| (card, 1, 1)).collect();
+    let draft = next_clear_of_card_0(&one_more);
+    assert_eq!(take(&mut replica_of_three(), &draft.bytes()), UNREADABLE);
+    assert_eq!(library::read_message(&draft.bytes()).number, UNREADABLE);
+}
+
+#[test]
+fn outputs_of_an_increment() {
+    for (room, due) in [
+        (0, SHORT_OUTPUT),
+        (INCREMENT_BYTES - 1, SHORT_OUTPUT),
+        (INCREMENT_BYTES, OK),
+        (INCREMENT_BYTES + 1, OK),
+    ] {
+        let answer = send(COUNT, &mut replica_of_three(), 0, room);
+        let length = if due == OK { INCREMENT_BYTES as u64 } else { 0 };
+        assert_eq!((answer.number, answer.length), (due, length));
+    }
+}
+
+// ---- steps and logs
+
+#[test]
+fn numbers_of_a_step() {
+    let answer = |step: Step| {
+        let (number, answers) = run(2, 2, LONGEST_MESSAGE, &[Step::count(0, 0), step]);
+        assert_eq!((number, answers[0]), (OK, OK));
+        answers[1]
+    };
+    for kind in (0..9).chain([u32::MAX]) {
+        let due = if STEP_KINDS.contains(&kind) { OK } else { BAD_KIND };
+        // Card 1 and counter 0, or to card 1 from card 0.
+        assert_eq!(answer(Step { kind, first: 1, second: 0 }), due, "{kind}");
+    }
+    for call in [Step::count, Step::clear] {
+        assert_eq!(answer(call(1, 1)), OK);
+        assert_eq!(answer(call(2, 1)), BAD_CARD);
+        assert_eq!(answer(call(u32::MAX, 1)), BAD_CARD);
+        assert_eq!(answer(call(1, 2)), BAD_COUNTER);
+        assert_eq!(answer(call(1, u32::MAX)), BAD_COUNTER);
+        assert_eq!(answer(call(2, 2)), BAD_CARD);
+    }
+    assert_eq!(answer(Step::deliver(1, 0)), OK);
+    assert_eq!(answer(Step::deliver(0, 1)), NOTHING_WAITING);
+    assert_eq!(answer(Step::deliver(0, 0)), BAD_CARD);
+    assert_eq!(answer(Step::deliver(2, 0)), BAD_CARD);
+    assert_eq!(answer(Step::deliver(1, 2)), BAD_CARD);
+    assert_eq!(answer(Step::deliver(u32::MAX, u32::MAX)), BAD_CARD);
+}
+
+#[test]
+fn steps_are_whole() {
+    for (extra, due) in [(0, OK), (1, BAD_SIZES), (STEP_BYTES - 1, BAD_SIZES)] {
+        let steps = [&Step::count(0, 0).to_bytes()[..], &vec![0; extra]].concat();
+        let (mut words, mut logs) = (vec![9; replica_words(1, 1)], vec![9; INCREMENT_BYTES]);
+        let lent = Buffers { words: &mut words, logs: &mut logs, answers: &mut [9] };
+        assert_eq!(library::run(1, 1, INCREMENT_BYTES as u64, &steps, lent), due);
+    }
+}
+
+#[test]
+fn logs_that_are_just_long_enough() {
+    let count = Step::count(0, 0);
+    let last = |log_bytes: usize, steps: &[Step]| *run(2, 1, log_bytes, steps).1.last().unwrap();
+    assert_eq!(last(INCREMENT_BYTES - 1, &[count]), LOG_FULL);
+    assert_eq!(last(INCREMENT_BYTES, &[count]), OK);
+    assert_eq!(last(2 * INCREMENT_BYTES - 1, &[count, count]), LOG_FULL);
+    assert_eq!(last(2 * INCREMENT_BYTES, &[count, count]), OK);
+    assert_eq!(last(clear_bytes(0) - 1, &[Step::clear(1, 0)]), LOG_FULL);
+    assert_eq!(last(clear_bytes(0), &[Step::clear(1, 0)]), OK);
+    let steps = [count, Step::deliver(1, 0), Step::clear(1, 0)];
+    assert_eq!(last(clear_bytes(1) - 1, &steps), LOG_FULL);
+    assert_eq!(last(clear_bytes(1), &steps), OK);
+}
+
+#[test]
+fn logs_whose_product_wraps() {
+    // Two logs of 2^63 bytes are 2^64, and none was lent.
+    let (cards, counters, log_bytes) = (2, 1, 1 << 63);
+    let len = 2 * replica_words(2, 1);
+    let refused = |call: &dyn Fn(Buffers) -> u64| {
+        let mut words = vec![9; len];
+        let lent = Buffers { words: &mut words, logs: &mut [], answers: &mut [] };
+        assert_eq!(call(lent), BAD_SIZES);
+        assert_eq!(words, vec![9; len]);
+    };
+    refused(&|lent| library::run(cards, counters, log_bytes, &[], lent));
+    refused(&|lent| library::run_records(cards, counters, log_bytes, &[], lent));
+    refused(&|lent| number(chassis::run(cards, counters, log_bytes, &[], lent)));
+}
+
+#[test]
+fn messages_of_a_log() {
+    let increment = next_of_card_0().bytes();
+    let full: Vec<_> = (0..MOST_CARDS as u32).map(|card| (card, 1, 1)).collect();
+    let clear = next_clear_of_card_0(&full).bytes();
+    assert_eq!((increment.len(), clear.len()), (INCREMENT_BYTES, LONGEST_MESSAGE));
+    let log = [&increment[..], &clear, &increment].concat();
+    let waiting = |log: &[u8], q: u64| {
+        let span = library::waiting(log, q);
+        let ours = chassis::waiting(log, q);
+        assert_eq!((span.start as usize, span.length as usize), (ours.start, ours.len()));
+        (ours.start, ours.len())
+    };
+    assert_eq!(waiting(&log, 1), (0, INCREMENT_BYTES));
+    assert_eq!(waiting(&log, 2), (INCREMENT_BYTES, LONGEST_MESSAGE));
+    assert_eq!(waiting(&log, 3), (INCREMENT_BYTES + LONGEST_MESSAGE, INCREMENT_BYTES));
+    for q in [0, 4, MAX, MAX + 1, u64::MAX] {
+        assert_eq!(waiting(&log, q), (0, 0), "{q}");
+    }
+    assert_eq!(waiting(&log[..log.len() - 1], 3), (0, 0));
+    assert_eq!(waiting(&log[..log.len() - 1], 2), (INCREMENT_BYTES, LONGEST_MESSAGE));
+}
