@@ -21,6 +21,8 @@ fi
 "$root/tests/symbols.sh"
 "$root/tests/driver.sh"
 "$root/tests/guards.sh"
+"$root/tests/believe.sh"
+"$root/tests/quotes.sh"
 cd "$root/reference"
 cargo test --release --offline -- --nocapture
 cargo run --release --offline --bin listing_differential -- "$listing"

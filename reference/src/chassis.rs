@@ -1,4 +1,4 @@
-//! Document 01, 'Chassis': the waiting message of a log, and a run of steps.
+//! SPECIFICATION 6: the waiting message of a log, and a run of steps.
 
 use core::ops::Range;
 

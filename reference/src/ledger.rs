@@ -1,4 +1,4 @@
-//! Document 01, 'The ledger': for one counter, which names each card has received and which are
+//! SPECIFICATION 7, the ledger: for one counter, which names each card has received and which are
 //! cancelled there. It is fed steps and whether each was accepted, and nothing else.
 
 use std::collections::{BTreeMap, BTreeSet, VecDeque};

@@ -1,4 +1,4 @@
-//! Document 01 written again from the document, in plain Rust: messages, one card's replica,
+//! The specification written again from its text, in plain Rust: messages, one card's replica,
 //! the chassis and its run, the listing, and the ledger as a machine of its own.
 //!
 //! `library` wraps the static library's exports; `differential` holds the two against each

@@ -1,4 +1,4 @@
-//! Document 01's limits, sizes and numbers, each in this one place of the Rust side and under its
+//! The specification's limits, sizes and numbers, each in this one place of the Rust side and under its
 //! name in `include/yelansub.h`; `tests/header.rs` holds the two together. Where the words of a
 //! replica stand is in `replica`, the fields of a message in `message`.
 

@@ -1,4 +1,4 @@
-//! Document 01, 'Listing program'.
+//! SPECIFICATION 9, the listing program.
 
 use std::fmt::Write;
 

@@ -1,4 +1,4 @@
-//! Document 01, 'Message': big-endian, every field in range, the length exact.
+//! SPECIFICATION 2, the message: big-endian, every field in range, the length exact.
 
 use crate::limits::*;
 

@@ -1,4 +1,4 @@
-//! Document 01, 'Book' (here: replica) and 'Count, clear, take, read'.
+//! SPECIFICATION 3 and 4: the replica, and count, clear, take, read.
 //!
 //! The words: r, k, own card; C[j]; N[j]; then, counter by counter, (p, n, c) for each card.
 

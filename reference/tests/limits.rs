@@ -1,4 +1,4 @@
-//! Every limit of document 01 at its edge and one past it, with all else fitting: the library and
+//! Every limit of the specification at its edge and one past it, with all else fitting: the library and
 //! the reference both give the number due, and a refusal leaves everything as it was.
 
 use std::fmt::Debug;

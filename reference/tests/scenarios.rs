@@ -1,4 +1,4 @@
-//! Document 01's orders from the bench, by name, through the library's calls and runs.
+//! The specification's scenarios, by name, through the library's calls and runs.
 
 use yelansub_reference::chassis::{self, Buffers, Step};
 use yelansub_reference::differential::generate::Draft;

@@ -92,7 +92,7 @@ static void clear(unsigned sender, uint64_t sequence, unsigned counter, unsigned
 
 int main(void)
 {
-    increment(0, 1, 0, 1, 1); /* document 01's example */
+    increment(0, 1, 0, 1, 1); /* the specification's example */
     increment(LAST_CARD, YELANSUB_MAX, LAST_COUNTER, YELANSUB_MAX, 1);
     increment(LAST_CARD, YELANSUB_MAX, LAST_COUNTER, YELANSUB_MAX, 0);
     increment(0, 2, 0, 2, 0);

@@ -1,7 +1,7 @@
-pub mod Begin
-pub mod Outcomes
+pub mod BeginLaws
+pub mod LogWalkLaws
+pub mod OutcomeLaws
 pub mod PartOf
 pub mod PartExamples
-pub mod Running
-pub mod Turns
-pub mod Walk
+pub mod RunningLaws
+pub mod StepCodeLaws

@@ -1,4 +1,4 @@
--- DEFINITIONS. A part of the caller's bytes that is handed out as that part, not as a copy (document 01, "Chassis": "hands out the waiting message as that part of the log").
+-- DEFINITIONS. A part of the caller's bytes that is handed out as that part, not as a copy (SPECIFICATION 6.2: "The waiting message is handed out as that part of the log").
 use Prim.Native.Nat.{ℕ, _+_}
 use mathlib.Core.Path.{_≡_}
 use mathlib.Core.List.{List}

@@ -9,7 +9,7 @@ ghost use Rattle.replica_model.specs.Layout.{replica-length, fresh-words};
 ghost use Rattle.replica_model.specs.ClaimTerms.{Sizes};
 ghost use Rattle.chassis_model.specs.ListParts.{put-part};
 ghost use Rattle.chassis_model.specs.Run.{fresh-replicas};
-ghost use Rattle.chassis.specs.Begin.{lengths-right};
+ghost use Rattle.chassis.specs.BeginLaws.{lengths-right};
 
 // Is x = n * y? The product is not worked out: it may not fit a word.
 fn is_product(x: u64, n: u64, y: u64) -> bool

@@ -10,5 +10,5 @@ pub struct Sizes {
     pub cards: usize,
     pub counters: usize,
     pub log_bytes: usize,
-    pub replica: usize,
+    pub replica_words: usize,
 }

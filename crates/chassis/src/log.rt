@@ -20,7 +20,7 @@ fn span(start: usize, length: usize) -> Span
     }
 }
 
-// Where message number `q` stands in the log, for hosts that take no part of a slice; 0 and 0 stand for "no message waiting".
+// Where message number `q` stands in the log, for hosts that take no part of a slice; 0 and 0 stand for "No message waiting".
 // Ruled out: "none" while a message waits (must-fail/none_while_one_waits), another message than the one asked for
 // (must-fail/earlier_message).
 pub fn waiting_span(log: &[u8], q: u64) -> Span
@@ -44,7 +44,7 @@ pub fn waiting_span(log: &[u8], q: u64) -> Span
 }
 
 // Hands out the part of the log where message number `q` stands, not a copy; an empty part, at the log's front, stands
-// for "no message waiting".
+// for "No message waiting".
 // Ruled out: what `waiting_span` rules out, a copy, and the same bytes at another place, as the earlier of two equal messages
 // (must-fail/earlier_of_equal_messages).
 pub fn waiting(log: &[u8], q: u64) -> &[u8]

@@ -5,21 +5,29 @@ use crate::stepping;
 use crate::steps;
 use replica::words;
 ghost use mathlib.Core.Path.{_≡_};
-ghost use Prim.Native.Nat.{_*_, _<_};
+ghost use Prim.Native.Nat.{_*_};
 ghost use lib.ListN.{length, replicate};
-ghost use Rattle.chassis_model.specs.Run.{RunOutcome, run-bytes-on, steps-of};
-ghost use Rattle.chassis.specs.Turns.{StepReady, RunDone};
+ghost use Rattle.chassis_model.specs.Run.{RunOutcome, answer-length, run-bytes-on, step-length, steps-of};
+ghost use Rattle.chassis_model.specs.Places.{links};
+ghost use Rattle.chassis.specs.StepCodeLaws.{StepReady, RunDone};
 
-// The steps, one turn after the other, from fresh replicas.
-fn run_steps(z: Sizes, bytes: &[u8], words: &mut [u64], logs: &mut [u8], answers: &mut [u64])
-    requires { ⌜ StepReady z (now words) (now logs) (replicate 256 0) × (length (now bytes) ≡ 12 * length (now answers)) ⌝ }
-    ensures { λ _. ⌜ RunDone z (steps-of (now (bytes .entry))) (now (words .entry)) (now (logs .entry)) (now (words .exit)) (now (logs .exit)) (now (answers .exit)) ⌝ }
+// The steps, one after the other, from fresh replicas.
+fn run_steps(
+    sizes: Sizes,
+    bytes: &[u8],
+    count: usize,
+    words: &mut [u64],
+    logs: &mut [u8],
+    answers: &mut [u64],
+)
+    requires { ⌜ StepReady sizes (now words) (now logs) (replicate links 0) × (length (now bytes) ≡ step-length * count) × (length (now answers) ≡ count * answer-length) ⌝ }
+    ensures { λ _. ⌜ RunDone sizes (steps-of (now (bytes .entry))) (now (words .entry)) (now (logs .entry)) (now (words .exit)) (now (logs .exit)) (now (answers .exit)) ⌝ }
 {
-    let mut places: [u64; 256] = [0; 256];
+    let mut places: [u64; stepping::LINKS] = [0; stepping::LINKS];
     let mut i: usize = 0;
-    while i < answers.len() {
-        let s = steps::step_from(bytes, 12 * i);
-        i = stepping::turn(z, s, i, words, logs, answers, &mut places);
+    while i < count {
+        let s = steps::step_from(bytes, steps::STEP_BYTES * i);
+        i = stepping::answer_step(sizes, s, i, words, logs, answers, &mut places);
     }
 }
 
@@ -37,14 +45,15 @@ pub fn run(
 ) -> u64
     ensures { λ a. ⌜ _≡_ {A = RunOutcome} (record { number = a; words = now (words .exit); logs = now (logs .exit); answers = now (answers .exit) }) (run-bytes-on cards counters «log_bytes» (now (steps .entry)) (now (words .entry)) (now (logs .entry)) (now (answers .entry))) ⌝ }
 {
-    if steps.len() % 12 != 0 {
+    if steps.len() % steps::STEP_BYTES != 0 {
         return protocol::BAD_SIZES;
     }
+    let count = steps.len() / steps::STEP_BYTES;
     if !begin::sizes_are_right(
         cards,
         counters,
         log_bytes,
-        steps.len() / 12,
+        count,
         words.len(),
         logs.len(),
         answers.len(),
@@ -54,12 +63,12 @@ pub fn run(
     let r = cards as usize;
     let k = counters as usize;
     begin::fresh_all(words, r, k);
-    let z = Sizes {
+    let sizes = Sizes {
         cards: r,
         counters: k,
         log_bytes: log_bytes as usize,
-        replica: words::replica_words(r, k),
+        replica_words: words::replica_words(r, k),
     };
-    run_steps(z, steps, words, logs, answers);
+    run_steps(sizes, steps, count, words, logs, answers);
     0
 }

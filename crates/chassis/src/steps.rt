@@ -4,14 +4,16 @@ use wire::number;
 ghost use mathlib.Core.Path.{_≡_};
 ghost use Prim.Native.Nat.{_+_, _≤_};
 ghost use lib.ListN.{length};
-ghost use Rattle.chassis_model.specs.Run.{step-at};
+ghost use Rattle.chassis_model.specs.Run.{step-at, step-length};
+
+pub const STEP_BYTES: usize = 12;
 
 const FIRST_AT: usize = 4;
 
 const SECOND_AT: usize = 8;
 
 pub(crate) fn step_from(bytes: &[u8], at: usize) -> Step
-    requires { ⌜ at + 12 ≤ length (now bytes) ⌝ }
+    requires { ⌜ at + step-length ≤ length (now bytes) ⌝ }
     ensures { λ a. ⌜ a ≡ step-at (now (bytes .entry)) at ⌝ }
 {
     Step {

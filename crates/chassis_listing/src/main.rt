@@ -1,4 +1,4 @@
-// Writes the listing of the run that standard input gives (document 01, "Listing program").
+// Writes the listing of the run that standard input gives (SPECIFICATION 9).
 fn main() {
     listing_io::list_input();
 }

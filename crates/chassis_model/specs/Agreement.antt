@@ -13,20 +13,20 @@ use Rattle.protocol.specs.Refusals.{received-within}
 use Rattle.protocol.specs.Arrivals.{after-steps-arrivals}
 use Rattle.protocol.specs.Agreement.{same-received-agree}
 use Rattle.protocol.specs.RoundRobin.{IsLink}
+use Rattle.protocol.specs.AcceptanceLaws.{count-cong}
 use Rattle.replica_model.specs.Layout.{N-of}
 use Rattle.replica_model.specs.Calls.{read-on}
-use Rattle.replica_model.specs.RowLaws.{count-cong}
 use Rattle.chassis_model.specs.Ledger.{ledger-reading}
-use Rattle.chassis_model.specs.InStep.{reached-N}
+use Rattle.chassis_model.specs.InStep.{cards-at, reached-N}
 use Rattle.chassis_model.specs.Offers.{offers-of, ledgers-told, TheoryRun}
 use Rattle.chassis_model.specs.TheoryReads.{reading-is}
 
-module _ (r k : ℕ) (steps : List Step) (numbers : List ℕ) (replicas : ℕ → List ℕ) (t : TheoryRun r k steps numbers replicas) where
+module _ {r k : ℕ} {steps : List Step} {numbers : List ℕ} {replicas : ℕ → List ℕ} (t : TheoryRun r k steps numbers replicas) where
   abbrev ch : Chassis
   ch = after-run r (offers-of steps numbers)
 
   N-is : (i s : ℕ) → i < r → s < r → N-of r (replicas i) s ≡ ch .replica i .N s
-  N-is = reached-N r k replicas _ _ (t .cards)
+  N-is = reached-N (cards-at (t .cards))
 
   pub same-reads : (i j : ℕ) → i < r → j < r → ((s : ℕ) → s < r → N-of r (replicas i) s ≡ N-of r (replicas j) s)
       → (q : ℕ) → q < k → read-on (replicas i) q ≡ read-on (replicas j) q
@@ -35,13 +35,13 @@ module _ (r k : ℕ) (steps : List Step) (numbers : List ℕ) (replicas : ℕ �
       let l = ledgers-told r steps numbers q in
       let ok = t .cards .invariants q in
       let cards-show = same-received-agree r q ch l ok (after-steps-arrivals r q _ _) i j (λ s hs. sym (N-is i s hi hs) ∙ same s hs ∙ N-is j s hj hs) in
-      reading-is r k steps numbers replicas t i q hi hq
+      reading-is t i q hi hq
       ∙ rw (
         sym (value-is r q ch l ok i) ∙ cards-show .value ∙ value-is r q ch l ok j,
         sym (holders-are r q ch l ok i) ∙ cards-show .holders ∙ holders-are r q ch l ok j,
         count-cong r (λ o. holds i o l) (λ o. holds j o l) (λ o m. cards-show .holding o),
       )
-      (sym (reading-is r k steps numbers replicas t j q hj hq))
+      (sym (reading-is t j q hj hq))
 
   -- a card on whose links nothing waits has received all that was made
   pub received-all : (i : ℕ) → i < r → ((s : ℕ) → IsLink r i s → N-of r (replicas s) s ≤ N-of r (replicas i) s)

@@ -14,12 +14,16 @@ use Rattle.protocol.specs.RoundRobin.{IsLink, link, times}
 use Rattle.protocol.specs.Entry.{incremented, cleared}
 use Rattle.protocol.specs.Chassis.{count-message, present-entries, clear-message, read-value, read-holders}
 use Rattle.protocol.specs.StoreLaws.{cleared-words, taken-words, shown}
+use Rattle.protocol.specs.Functions.{all-below, count-below}
+use Rattle.protocol.specs.Acceptance.{entry-well-formed, card-well-formed, all-entries, cards-known, increment-implausible, entry-plausible, plausible, tables-well-formed}
 use Rattle.wire.specs.Number.{number-at, bytes-of}
 use Rattle.wire.specs.Message as form
 use Rattle.wire.specs.Message.{header-bytes, increment-bytes, entry-bytes, entries-bytes, clear-bytes, message-bytes, header-in-range, increment-in-range, clear-in-range, entry-in-range, entries-in-range, unused, in-range, increment-message, entries-at, called-length, message-at, reads}
 use Rattle.replica_model.specs.Layout.{N-of, fresh-words}
 use Rattle.replica_model.specs.Calls as calls
-use Rattle.replica_model.specs.Calls.{sizes-in-range, right, all-below, count-below, entry-well-formed, card-well-formed, row-well-formed, reading, read-on, sending, count-on, clear-on, content, all-entries, cards-known, increment-implausible, entry-plausible, plausible, taking, take-on}
+use Rattle.replica_model.specs.Calls.{sizes-in-range, right, row-well-formed, reading, read-on, count-on, clear-on, take-on, replica-fits, send-with, words-after, take-with}
+use Rattle.replica_model.specs.Format.{content}
+use Rattle.chassis_model.specs.Run.{call-of}
 use Rattle.chassis_model.specs.Driver.{Call, count, clear, take, opened, wrote, sent, called, number-of, after, numbers, cards-after, GenuineHistory}
 use Rattle.chassis_model.specs.DriverExamples.{first, second, reading-of}
 
@@ -97,7 +101,7 @@ pub examples-hold :
     -- nor two that have received as many messages as were written, if one was forged
     × (GenuineHistory 2 2 forged → ⊥) × (has-all 2 2 forged 0 ≡ true) × (has-all 2 2 forged 1 ≡ true)
     × (read-on (cards-after 2 2 forged .words 0) 0 ≡ reading-of 0 0 0) × (read-on (cards-after 2 2 forged .words 1) 0 ≡ reading-of 1 1 1)
-unfolding put sum bits incremented cleared count-message present-entries clear-message read-value read-holders cleared-words taken-words shown number-at bytes-of header-bytes increment-bytes entry-bytes entries-bytes clear-bytes message-bytes header-in-range increment-in-range clear-in-range entry-in-range entries-in-range unused in-range increment-message entries-at called-length message-at reads form.clear-message fresh-words sizes-in-range right all-below count-below entry-well-formed card-well-formed row-well-formed reading read-on calls.sent sending count-on clear-on content all-entries cards-known increment-implausible entry-plausible plausible taking take-on wrote sent called number-of after numbers
+unfolding put sum bits incremented cleared count-message present-entries clear-message read-value read-holders cleared-words taken-words shown number-at bytes-of header-bytes increment-bytes entry-bytes entries-bytes clear-bytes message-bytes header-in-range increment-in-range clear-in-range entry-in-range entries-in-range unused in-range increment-message entries-at called-length message-at reads form.clear-message fresh-words sizes-in-range right replica-fits all-below count-below entry-well-formed card-well-formed row-well-formed tables-well-formed reading read-on send-with words-after count-on clear-on content all-entries cards-known increment-implausible entry-plausible plausible take-with call-of wrote sent called number-of after numbers
 examples-hold = (
   (tt, (tt, (tt, (λ _. inl refl, (tt, (λ _. inl refl, (λ _. inl refl, (λ _. inl refl, tt)))))))),
   refl,

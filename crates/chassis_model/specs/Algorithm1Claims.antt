@@ -29,7 +29,7 @@ pub algorithm-1-in-every-run : (r k L : ℕ) (steps : List Step) (words logs ans
     (C-of b j ≡ paper .C j) × (slot-of (entry-of r b q j) ≡ paper .M q j) × (read-on b q .value ≡ value r (instance q paper))
 algorithm-1-in-every-run r k L steps words logs answers right i j q hi hj hq =
     let t = theory-run r k L steps words logs answers right in
-    (C-is r k _ _ _ t i j hi hj, M-is r k _ _ _ t i j q hi hj hq, algorithm-1-value r k _ _ _ t i q hi hq)
+    (C-is t i j hi hj, M-is t i j q hi hj hq, algorithm-1-value t i q hi hq)
 
 -- The same of the words that a driver's genuine history leaves.
 pub algorithm-1-in-every-history : (r k : ℕ) → sizes-in-range r k ≡ true → (calls : List Call) → GenuineHistory r k calls
@@ -39,4 +39,4 @@ pub algorithm-1-in-every-history : (r k : ℕ) → sizes-in-range r k ≡ true �
     (C-of b j ≡ paper .C j) × (slot-of (entry-of r b q j) ≡ paper .M q j) × (read-on b q .value ≡ value r (instance q paper))
 algorithm-1-in-every-history r k right calls genuine i j q hi hj hq =
     let t = theory-history r k right calls genuine in
-    (C-is r k _ _ _ t i j hi hj, M-is r k _ _ _ t i j q hi hj hq, algorithm-1-value r k _ _ _ t i q hi hq)
+    (C-is t i j hi hj, M-is t i j q hi hj hq, algorithm-1-value t i q hi hq)

@@ -1,44 +1,42 @@
 -- DEFINITIONS. One counter's own steps of a run's list, and its own calls of a driver's history: the accepted ones that count or clear it, or that hand over one of
 -- its messages, in order. Which counter a message is of stands in its bytes.
 use Prim.Native.Nat.{ℕ, suc}
-use mathlib.Core.Bool.{cond, _&&_}
+use mathlib.Core.Bool.{Bool, false, cond, _&&_}
 use mathlib.Core.List.{List, [], _∷_, _++_}
 use lib.ListN.{getD}
 use lib.Dec.{eqb}
 use Rattle.wire.specs.Message.{message-at}
 use Rattle.replica_model.specs.Layout.{N-of}
 use Rattle.chassis_model.specs.Log.{waiting-part}
-use Rattle.chassis_model.specs.Run.{Step, State, log-of, N-at, step-on, deliver-kind}
+use Rattle.chassis_model.specs.Run.{Step, Action, Make, Deliver, Nothing, action-of, State, log-of, N-at, step-on}
 use Rattle.chassis_model.specs.Ledger.{was-accepted}
 use Rattle.chassis_model.specs.Answers.{fresh-state}
-use Rattle.chassis_model.specs.Driver.{Call, count, clear, take, Cards, opened, called, number-of}
+use Rattle.chassis_model.specs.Driver.{Call, make, take, Cards, opened, called, number-of}
 
 -- ---- of a run
 
 module _ (r k L : ℕ) where
-  -- the counter of a step: the one that a count or clear names, and for a deliver step the one of the message that it hands over
-  unfoldable pub step-counter : Step → State → ℕ
-  step-counter s st =
-      cond (eqb (s .kind) deliver-kind)
-      (message-at (waiting-part (suc (N-at r k L st (s .first) (s .second))) (log-of r k L st (s .second))) .counter)
-      (s .second)
+  -- is the action of counter q? Its counter is the one on which a message is made, and for a delivery the one of the message that it hands over.
+  unfoldable pub of-counter : ℕ → Action → State → Bool
+  of-counter q (Make m i c) st = eqb c q
+  of-counter q (Deliver i s) st = eqb (message-at (waiting-part (suc (N-at r k L st i s)) (log-of r k L st s)) .counter) q
+  of-counter q Nothing st = false
 
   -- q's own steps of a list, run from st
   unfoldable pub own-steps-from : ℕ → List Step → State → List Step
   own-steps-from q [] st = []
   own-steps-from q (s ∷ ss) st =
       let done = step-on r k L s st in
-      cond (was-accepted (done .answer) && eqb (step-counter s st) q) (s ∷ []) [] ++ own-steps-from q ss (done .state)
+      cond (was-accepted (done .answer .number) && of-counter q (action-of s) st) (s ∷ []) [] ++ own-steps-from q ss (done .state)
 
   abbrev pub own-steps : ℕ → List Step → List ℕ → List Step
   own-steps q steps logs = own-steps-from q steps (fresh-state r k L logs)
 
 -- ---- of a driver's history
 
--- the counter of a call: the one that a count or clear names, and for a take the one of the message that the bytes are
+-- the counter of a call: the one on which a message is made, and for a take the one of the message that the bytes are
 abbrev pub call-counter : Call → ℕ
-call-counter (count i q out) = q
-call-counter (clear i q out) = q
+call-counter (make m i q out) = q
 call-counter (take i bytes) = message-at bytes .counter
 
 -- q's own calls of a list, made from st on
@@ -53,8 +51,7 @@ own-calls r k q calls = own-calls-from q calls (opened r k)
 -- A call again, on cards that have come another way: the same count or clear, and for a take of one of card s's messages the one whose turn it is there.
 -- (Its bytes are others: p and c depend on all counters.)
 abbrev pub again : ℕ → Call → Cards → Call
-again r (count i q out) st = count i q out
-again r (clear i q out) st = clear i q out
+again r (make m i q out) st = make m i q out
 again r (take i bytes) st = take i (let s = message-at bytes .sender in getD (st .written s) (N-of r (st .words i) s) [])
 
 unfoldable pub replayed : ℕ → List Call → Cards → List Call

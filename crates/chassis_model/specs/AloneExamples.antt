@@ -8,21 +8,24 @@ use Rattle.protocol.specs.Tables.{put, sum, bits}
 use Rattle.protocol.specs.Entry.{incremented, cleared}
 use Rattle.protocol.specs.Chassis.{count-message, present-entries, clear-message, read-value, read-holders}
 use Rattle.protocol.specs.StoreLaws.{cleared-words, taken-words, shown}
+use Rattle.protocol.specs.Functions.{all-below, count-below}
+use Rattle.protocol.specs.Acceptance.{entry-well-formed, card-well-formed, all-entries, cards-known, increment-implausible, entry-plausible, plausible, tables-well-formed}
 use Rattle.wire.specs.Number.{number-at, bytes-of}
 use Rattle.wire.specs.declared.Message as wire
 use Rattle.wire.specs.Message as form
 use Rattle.wire.specs.Message.{header-bytes, increment-bytes, entry-bytes, entries-bytes, clear-bytes, message-bytes, header-in-range, increment-in-range, clear-in-range, entry-in-range, entries-in-range, unused, in-range, increment-message, entries-at, called-length, message-at, reads, front-length}
 use Rattle.replica_model.specs.Layout.{fresh-words}
 use Rattle.replica_model.specs.Calls as calls
-use Rattle.replica_model.specs.Calls.{sizes-in-range, right, all-below, count-below, entry-well-formed, card-well-formed, row-well-formed, reading, read-on, sending, count-on, clear-on, content, all-entries, cards-known, increment-implausible, entry-plausible, plausible, taking, take-on}
+use Rattle.replica_model.specs.Calls.{sizes-in-range, right, row-well-formed, reading, read-on, count-on, clear-on, take-on, replica-fits, send-with, words-after, take-with}
+use Rattle.replica_model.specs.Format.{content}
 use Rattle.chassis_model.specs.ListParts.{part, put-part}
 use Rattle.chassis_model.specs.Log.{waiting-part, end-of}
 use Rattle.chassis_model.specs.Run as run
-use Rattle.chassis_model.specs.Run.{Step, State, replica-of, log-of, delivered, cards-right, step-on, state-after, answers-of, fresh-replicas, count-kind, clear-kind, deliver-kind}
+use Rattle.chassis_model.specs.Run.{Step, action-of, call-of, State, replica-of, log-of, delivered, acted, state-after, answers-of, fresh-replicas, count-kind, clear-kind, deliver-kind}
 use Rattle.chassis_model.specs.Answers.{fresh-state}
 use Rattle.chassis_model.specs.Driver as driver
 use Rattle.chassis_model.specs.Driver.{Call, opened, wrote, sent, called, number-of, numbers}
-use Rattle.chassis_model.specs.Alone.{step-counter, own-steps-from, own-steps, own-calls-from, own-calls, replayed}
+use Rattle.chassis_model.specs.Alone.{of-counter, own-steps-from, own-steps, own-calls-from, own-calls, replayed}
 
 abbrev pub count : ℕ → ℕ → Step
 count i q = record { kind = count-kind; first = i; second = q }
@@ -69,7 +72,7 @@ pub own-of-linked :
     -- it matters: alone, the right steps give card 1 its read of counter 1, and the mistaken ones do not
     × (own 100 1 linked ≡ mistaken → ⊥)
     × (value-read 100 linked 1 1 ≡ 1) × (value-read 100 (own 100 1 linked) 1 1 ≡ 1) × (value-read 100 mistaken 1 1 ≡ 0)
-unfolding put sum bits incremented cleared count-message present-entries clear-message read-value read-holders cleared-words taken-words shown number-at bytes-of header-bytes increment-bytes entry-bytes entries-bytes clear-bytes message-bytes header-in-range increment-in-range clear-in-range entry-in-range entries-in-range unused in-range increment-message entries-at called-length message-at reads front-length form.clear-message fresh-words sizes-in-range right all-below count-below entry-well-formed card-well-formed row-well-formed reading read-on calls.sent sending count-on clear-on content all-entries cards-known increment-implausible entry-plausible plausible taking take-on part put-part waiting-part end-of run.made delivered cards-right step-on state-after answers-of fresh-replicas step-counter own-steps-from
+unfolding put sum bits incremented cleared count-message present-entries clear-message read-value read-holders cleared-words taken-words shown number-at bytes-of header-bytes increment-bytes entry-bytes entries-bytes clear-bytes message-bytes header-in-range increment-in-range clear-in-range entry-in-range entries-in-range unused in-range increment-message entries-at called-length message-at reads front-length form.clear-message fresh-words sizes-in-range right replica-fits all-below count-below entry-well-formed card-well-formed row-well-formed tables-well-formed reading read-on send-with words-after count-on clear-on content all-entries cards-known increment-implausible entry-plausible plausible take-with part put-part waiting-part end-of action-of call-of run.made delivered acted state-after answers-of fresh-replicas of-counter own-steps-from
 own-of-linked = (
   refl,
   refl,
@@ -98,7 +101,7 @@ pub log-shared :
     × (logged 72 counting 2 ≡ increment-message 0 2 1 2 1) × (logged 72 (own 72 1 counting) 1 ≡ increment-message 0 1 1 1 1)
     -- The reads are the same.
     × (value-read 72 counting 0 1 ≡ 1) × (value-read 72 (own 72 1 counting) 0 1 ≡ 1)
-unfolding put sum bits incremented cleared count-message present-entries clear-message read-value read-holders cleared-words taken-words shown number-at bytes-of header-bytes increment-bytes entry-bytes entries-bytes clear-bytes message-bytes header-in-range increment-in-range clear-in-range entry-in-range entries-in-range unused in-range increment-message entries-at called-length message-at reads front-length form.clear-message fresh-words sizes-in-range right all-below count-below entry-well-formed card-well-formed row-well-formed reading read-on calls.sent sending count-on clear-on content all-entries cards-known increment-implausible entry-plausible plausible taking take-on part put-part waiting-part end-of run.made delivered cards-right step-on state-after answers-of fresh-replicas step-counter own-steps-from
+unfolding put sum bits incremented cleared count-message present-entries clear-message read-value read-holders cleared-words taken-words shown number-at bytes-of header-bytes increment-bytes entry-bytes entries-bytes clear-bytes message-bytes header-in-range increment-in-range clear-in-range entry-in-range entries-in-range unused in-range increment-message entries-at called-length message-at reads front-length form.clear-message fresh-words sizes-in-range right replica-fits all-below count-below entry-well-formed card-well-formed row-well-formed tables-well-formed reading read-on send-with words-after count-on clear-on content all-entries cards-known increment-implausible entry-plausible plausible take-with part put-part waiting-part end-of action-of call-of run.made delivered acted state-after answers-of fresh-replicas of-counter own-steps-from
 log-shared = (refl, refl, refl, refl, refl, refl, refl, refl, refl)
 
 -- ---- a driver's calls
@@ -123,5 +126,5 @@ pub own-of-history :
     × (own-calls 2 2 1 history ≡ driver.count 0 1 buffer ∷ driver.take 1 second ∷ [])
     -- alone, counter 1's message has other bytes: it is card 0's first
     × (replayed 2 (own-calls 2 2 1 history) (opened 2 2) ≡ driver.count 0 1 buffer ∷ driver.take 1 (message-bytes (increment-message 0 1 1 1 1)) ∷ [])
-unfolding put sum bits incremented cleared count-message present-entries clear-message read-value read-holders cleared-words taken-words shown number-at bytes-of header-bytes increment-bytes entry-bytes entries-bytes clear-bytes message-bytes header-in-range increment-in-range clear-in-range entry-in-range entries-in-range unused in-range increment-message entries-at called-length message-at reads front-length form.clear-message fresh-words sizes-in-range right all-below count-below entry-well-formed card-well-formed row-well-formed reading read-on calls.sent sending count-on clear-on content all-entries cards-known increment-implausible entry-plausible plausible taking take-on wrote sent called number-of numbers own-calls-from replayed
+unfolding put sum bits incremented cleared count-message present-entries clear-message read-value read-holders cleared-words taken-words shown number-at bytes-of header-bytes increment-bytes entry-bytes entries-bytes clear-bytes message-bytes header-in-range increment-in-range clear-in-range entry-in-range entries-in-range unused in-range increment-message entries-at called-length message-at reads front-length form.clear-message fresh-words sizes-in-range right replica-fits all-below count-below entry-well-formed card-well-formed row-well-formed tables-well-formed reading read-on send-with words-after count-on clear-on content all-entries cards-known increment-implausible entry-plausible plausible take-with call-of wrote sent called number-of numbers own-calls-from replayed
 own-of-history = (refl, refl, refl, refl)

@@ -24,11 +24,11 @@ pub caught-up-value : (r k L : ℕ) (steps : List Step) (words logs answers : Li
     → let after = run-on r k L steps words logs answers in
     let history = history-of (map ledger-step steps) (after .answers) in
     caught-up i history ≡ true → read-on (part (replica-length r k) (after .words) i) q .value ≡ plain-value q i history
-caught-up-value r k L steps words logs answers right = reads.caught-up-value r k _ _ _ (theory-run r k L steps words logs answers right)
+caught-up-value r k L steps words logs answers right = reads.caught-up-value (theory-run r k L steps words logs answers right)
 
 -- The same after every genuine history of a driver's calls.
 pub driver-caught-up-value : (r k : ℕ) → sizes-in-range r k ≡ true → (calls : List Call) → GenuineHistory r k calls
     → (i q : ℕ) → i < r → q < k
     → let history = history-of (map call-step calls) (numbers calls (opened r k)) in
     caught-up i history ≡ true → read-on (cards-after r k calls .words i) q .value ≡ plain-value q i history
-driver-caught-up-value r k right calls genuine = reads.caught-up-value r k _ _ _ (theory-history r k right calls genuine)
+driver-caught-up-value r k right calls genuine = reads.caught-up-value (theory-history r k right calls genuine)

@@ -13,7 +13,7 @@ use Rattle.wire.specs.NumberLaws.{Bytes}
 use Rattle.replica_model.specs.Layout.{replica-length, N-of}
 use Rattle.replica_model.specs.Calls.{read-on}
 use Rattle.chassis_model.specs.ListParts.{part}
-use Rattle.chassis_model.specs.Run.{Step, state-after, answers-of, sizes-right, run-on, steps-bytes, AllFit, steps-of, run-bytes-on}
+use Rattle.chassis_model.specs.Run.{Step, state-after, answers-of, sizes-right, run-on, steps-bytes, AllFit, steps-of, run-bytes-on, step-length}
 use Rattle.chassis_model.specs.Ledger.{ledger-of, ledger-reading}
 use Rattle.chassis_model.specs.Answers.{fresh-state, due-answer, run-answer}
 use Rattle.chassis_model.specs.RunLaws as run-laws
@@ -60,7 +60,7 @@ accepted-sizes = run-laws.accepted-sizes
 -- A run over bytes answers 0 exactly when, besides, the bytes are a multiple of 12. Otherwise it answers 11, and words, logs and answers are as they were.
 pub accepted-sizes-over-bytes : (r k L : ℕ) (bytes words logs answers : List ℕ)
     → let after = run-bytes-on r k L bytes words logs answers in
-    ((after .number ≡ 0) ↔ ((length bytes % 12 ≡ 0) × (sizes-right r k L (length bytes / 12) words logs answers ≡ true)))
+    ((after .number ≡ 0) ↔ ((length bytes % step-length ≡ 0) × (sizes-right r k L (length bytes / step-length) words logs answers ≡ true)))
     × ((after .number ≡ 0 → ⊥) → after ≡ record { number = bad-sizes; words = words; logs = logs; answers = answers })
 accepted-sizes-over-bytes = run-laws.accepted-sizes-over-bytes
 
@@ -70,7 +70,7 @@ pub step-answers : (r k L : ℕ) (before : List Step) (s : Step) (after : List S
     → sizes-right r k L (length (before ++ s ∷ after)) words logs answers ≡ true
     → (any : ℕ)
     → getD (run-on r k L (before ++ s ∷ after) words logs answers .answers) (length before) 0
-    ≡ due-answer r k L any s (state-after r k L before (fresh-state r k L logs)) (λ q. ledger-of r q before (answers-of r k L before (fresh-state r k L logs)))
+    ≡ due-answer r k L any s (state-after r k L before (fresh-state r k L logs)) (λ q. ledger-of r q before (answers-of r k L before (fresh-state r k L logs))) .number
 step-answers = theorem.step-answers
 
 -- No step of a run answers anything but 0, 3, 4, 7, 12, 13 or 14.
@@ -86,5 +86,5 @@ pub same-run : (r k L : ℕ) (steps : List Step) (words logs answers : List ℕ)
 same-run = step-bytes-laws.same-run
 
 -- So two forms of one list: any bytes whose number is a multiple of 12 are the bytes of a list of steps, the one that a run over them runs.
-pub steps-of-bytes : (bytes : List ℕ) → Bytes bytes → length bytes % 12 ≡ 0 → AllFit (steps-of bytes) × (steps-bytes (steps-of bytes) ≡ bytes)
+pub steps-of-bytes : (bytes : List ℕ) → Bytes bytes → length bytes % step-length ≡ 0 → AllFit (steps-of bytes) × (steps-bytes (steps-of bytes) ≡ bytes)
 steps-of-bytes = step-bytes-laws.steps-of-bytes

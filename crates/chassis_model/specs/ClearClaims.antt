@@ -37,7 +37,7 @@ cleared-is-cancelled = laws.cleared-is-cancelled
 pub run-cleared-is-cancelled : (r k L : ℕ) (steps : List Step) (words logs answers : List ℕ) → sizes-right r k L (length steps) words logs answers ≡ true
     → (q : ℕ) (n : Name) (w : ClearStepBySeer r k L q steps logs n)
     → let after = run-on r k L steps words logs answers in
-    has (ledger-of r q steps (after .answers) .cancelled (w .step .first)) n ≡ true
+    has (ledger-of r q steps (after .answers) .cancelled (w .card)) n ≡ true
 run-cleared-is-cancelled = laws.run-cleared-is-cancelled
 
 -- and what is cancelled on any card, before or after it comes there, stays cancelled, whatever calls follow: these need not even be genuine.

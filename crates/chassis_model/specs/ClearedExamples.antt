@@ -14,12 +14,17 @@ use Rattle.protocol.specs.Ledger as ledger
 use Rattle.protocol.specs.Ledger.{applied, made, next-item, rest-items, handed, count-item, holds, clear-names, after-accepted, after-step, after-steps}
 use Rattle.protocol.specs.Chassis.{count-message, present-entries, clear-message, read-value}
 use Rattle.protocol.specs.StoreLaws.{cleared-words, taken-words, shown}
+use Rattle.protocol.specs.Functions.{all-below}
+use Rattle.protocol.specs.Acceptance.{entry-well-formed, card-well-formed, all-entries, cards-known, increment-implausible, entry-plausible, plausible, tables-well-formed}
 use Rattle.wire.specs.Number.{number-at, bytes-of}
 use Rattle.wire.specs.Message as form
 use Rattle.wire.specs.Message.{header-bytes, increment-bytes, entry-bytes, entries-bytes, clear-bytes, message-bytes, header-in-range, increment-in-range, clear-in-range, entry-in-range, entries-in-range, unused, in-range, increment-message, entries-at, called-length, message-at, reads}
 use Rattle.replica_model.specs.Layout.{fresh-words}
 use Rattle.replica_model.specs.Calls as calls
-use Rattle.replica_model.specs.Calls.{sizes-in-range, right, all-below, entry-well-formed, card-well-formed, row-well-formed, reading, read-on, sending, count-on, clear-on, content, all-entries, cards-known, increment-implausible, entry-plausible, plausible, taking, take-on}
+use Rattle.replica_model.specs.Calls.{sizes-in-range, right, row-well-formed, reading, read-on, count-on, clear-on, take-on, replica-fits, send-with, words-after, take-with}
+use Rattle.replica_model.specs.Format.{content}
+use Rattle.chassis_model.specs.Run.{call-of}
+use Rattle.chassis_model.specs.Ledger.{ledger-action}
 use Rattle.chassis_model.specs.Driver.{Call, count, clear, take, opened, wrote, sent, called, number-of, after, numbers, cards-after, GenuineHistory, history-ledger}
 use Rattle.chassis_model.specs.DriverExamples.{first, second}
 use Rattle.chassis_model.specs.Cleared.{ClearedBySeer}
@@ -54,7 +59,7 @@ pub unseen-stays :
     × (value-read exchanged 0 ≡ 1) × (value-read exchanged 1 ≡ 1)
     -- and the first was cleared by a card that had received it
     × ClearedBySeer 2 1 0 exchanged (name 0 1)
-unfolding put sum incremented cleared has insert join names-after latest applied ledger.sent made next-item handed count-item after-accepted after-step after-steps count-message present-entries clear-message read-value cleared-words taken-words shown number-at bytes-of header-bytes increment-bytes entry-bytes entries-bytes clear-bytes message-bytes header-in-range increment-in-range clear-in-range entry-in-range entries-in-range unused in-range increment-message entries-at called-length message-at reads form.clear-message fresh-words sizes-in-range right all-below entry-well-formed card-well-formed row-well-formed reading read-on calls.sent sending count-on clear-on content all-entries cards-known increment-implausible entry-plausible plausible taking take-on wrote sent called number-of after numbers
+unfolding put sum incremented cleared has insert join names-after latest applied ledger.sent made next-item handed count-item after-accepted after-step after-steps count-message present-entries clear-message read-value cleared-words taken-words shown number-at bytes-of header-bytes increment-bytes entry-bytes entries-bytes clear-bytes message-bytes header-in-range increment-in-range clear-in-range entry-in-range entries-in-range unused in-range increment-message entries-at called-length message-at reads form.clear-message fresh-words sizes-in-range right replica-fits all-below entry-well-formed card-well-formed row-well-formed tables-well-formed reading read-on send-with words-after count-on clear-on content all-entries cards-known increment-implausible entry-plausible plausible take-with ledger-action call-of wrote sent called number-of after numbers
 unseen-stays = (
   refl,
   refl,
@@ -65,10 +70,11 @@ unseen-stays = (
   refl,
   record {
     before = count 0 0 buffer ∷ take 1 first ∷ count 0 0 buffer ∷ [];
+    call = clear 1 0 buffer;
     card = 1;
-    out = buffer;
     later = take 0 clearing ∷ take 1 second ∷ [];
     in-list = refl;
+    is-clear = refl;
     was-accepted = refl;
     had-received = refl;
   },
@@ -76,7 +82,7 @@ unseen-stays = (
 
 -- the second is cancelled on no card
 nowhere : (i : ℕ) → has (history-ledger 2 1 exchanged 0 .cancelled i) (name 0 2) ≡ false
-unfolding put incremented cleared has insert join names-after any latest beyond applied ledger.sent made next-item rest-items handed count-item holds clear-names after-accepted after-step after-steps count-message present-entries clear-message cleared-words taken-words shown number-at bytes-of header-bytes entry-bytes entries-bytes clear-bytes message-bytes header-in-range increment-in-range clear-in-range entry-in-range entries-in-range unused in-range increment-message entries-at called-length message-at reads form.clear-message fresh-words sizes-in-range right all-below entry-well-formed card-well-formed row-well-formed calls.sent sending count-on clear-on content all-entries cards-known increment-implausible entry-plausible plausible taking take-on wrote sent called number-of after numbers
+unfolding put incremented cleared has insert join names-after any latest beyond applied ledger.sent made next-item rest-items handed count-item holds clear-names after-accepted after-step after-steps count-message present-entries clear-message cleared-words taken-words shown number-at bytes-of header-bytes entry-bytes entries-bytes clear-bytes message-bytes header-in-range increment-in-range clear-in-range entry-in-range entries-in-range unused in-range increment-message entries-at called-length message-at reads form.clear-message fresh-words sizes-in-range right replica-fits all-below entry-well-formed card-well-formed row-well-formed tables-well-formed send-with words-after count-on clear-on content all-entries cards-known increment-implausible entry-plausible plausible take-with ledger-action call-of wrote sent called number-of after numbers
 nowhere zero = refl
 nowhere (suc zero) = refl
 nowhere (suc (suc i)) = rw (ne-eqb (suc (suc i)) 0 (λ e. omega arith), ne-eqb (suc (suc i)) 1 (λ e. omega arith))

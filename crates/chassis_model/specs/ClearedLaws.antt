@@ -5,10 +5,9 @@ use mathlib.Core.Path.{_≡_, refl, sym, ap, ap₂, _∙_}
 use mathlib.Core.Bool.{Bool, true}
 use mathlib.Core.List.{List, [], _∷_, _++_, map, nil≢cons, head-eq-of-cons-eq, tail-eq-of-cons-eq}
 use lib.ListN.{length}
-use lib.Dec.{ltb}
-use borrow.Author.Tests.{ltb-true, eqb-true, ne-eqb}
-use Rattle.protocol.specs.Limits.{bad-replica}
+use borrow.Author.Tests.{ltb-true, eqb-true}
 use Rattle.protocol.specs.Cases.{and-left, or-right}
+use Rattle.protocol.specs.ChecksLaws.{first-passes}
 use Rattle.protocol.specs.Names.{Name, has}
 use Rattle.protocol.specs.Ledger as ledger
 use Rattle.protocol.specs.Ledger.{Ledger, empty-ledger, after-accepted, after-step, after-steps}
@@ -19,19 +18,19 @@ use Rattle.protocol.specs.LedgerLaws.{after-steps-grows}
 use Rattle.protocol.specs.NewNames.{value-gains}
 use Rattle.protocol.specs.ClearedLaws.{was-cleared, clear-cancelled, clear-value}
 use Rattle.replica_model.specs.declared.Reading.{Reading}
-use Rattle.replica_model.specs.Calls.{check, sizes-in-range, read-on}
-use Rattle.chassis_model.specs.Run.{Step, State, replica-of, step-on, state-after, answers-of, sizes-right, run-on, count-kind, clear-kind}
-use Rattle.chassis_model.specs.Ledger.{ledger-step, was-accepted, ledger-of, ledger-reading}
+use Rattle.replica_model.specs.Calls.{sizes-in-range, read-on}
+use Rattle.chassis_model.specs.Run.{Making, Count, Clear, Step, State, replica-of, step-on, state-after, answers-of, sizes-right, run-on}
+use Rattle.chassis_model.specs.Ledger.{ledger-action, ledger-step, was-accepted, ledger-of, ledger-reading}
 use Rattle.chassis_model.specs.Answers.{fresh-state}
-use Rattle.chassis_model.specs.Driver.{Call, count, clear, take, Cards, opened, called, number-of, GenuineCall, Genuine, after, numbers, cards-after, GenuineHistory, call-step, history-ledger, send-number, due-number}
+use Rattle.chassis_model.specs.Driver.{Call, make, count, clear, Cards, opened, called, number-of, GenuineCall, Genuine, after, numbers, cards-after, GenuineHistory, call-step, history-ledger, number-checks, due-number}
 use Rattle.chassis_model.specs.Cleared.{ClearedBySeer, ClearStepBySeer}
 use Rattle.chassis_model.specs.Offers.{offer, offers-of, TheoryRun, told}
+use Rattle.chassis_model.specs.InStep.{cards-at}
 use Rattle.chassis_model.specs.Reads.{read-matches}
-use Rattle.chassis_model.specs.Stepping.{by-kind}
 use Rattle.chassis_model.specs.Theorem as run
 use Rattle.chassis_model.specs.Theorem.{run-offers, right-sizes, state-run, answers-are}
-use Rattle.chassis_model.specs.AloneLaws.{passed}
-use Rattle.chassis_model.specs.DriverSteps.{ledgers-after, history-offers, accepted-leaves}
+use Rattle.chassis_model.specs.DriverMatches.{driver-at}
+use Rattle.chassis_model.specs.DriverSteps.{number-distinct, ledgers-after, history-offers, accepted-leaves}
 use Rattle.chassis_model.specs.DriverTheorem.{went, theory-history, driver-theorem, call-numbers}
 
 -- what a card had received that clears is cancelled there, whatever the ledger is fed then
@@ -59,15 +58,6 @@ call-at (c ∷ calls) st (x ∷ before) o later e found =
     (λ first c′ rest is firsts same.
     found (c ∷ first) c′ rest (ap (λ (cs : List Call). c ∷ cs) is) (ap₂ (λ (y : Offer) (ys : List Offer). y ∷ ys) (head-eq-of-cons-eq e) firsts) same)
 
-record ClearCall (c : Call) (i q : ℕ) : Type 0 where
-  out : List ℕ
-  is : c ≡ clear i q out
-
-clear-call : (c : Call) (i q : ℕ) → call-step c ≡ ledger.clear i q → ClearCall c i q
-clear-call (count j p out) i q e = record { out = out; is = cc }
-clear-call (clear j p out) i q e = record { out = out; is = cc }
-clear-call (take j bytes) i q e = record { out = bytes; is = cc }
-
 genuine-first : (calls more : List Call) (st : Cards) → Genuine (calls ++ more) st → Genuine calls st
 genuine-first [] more st g = tt
 genuine-first (c ∷ calls) more st (g, gs) = (g, genuine-first calls more (called c st) gs)
@@ -84,18 +74,18 @@ pub cancelled-stays : (r k q i : ℕ) (calls more : List Call) (n : Name) → ha
 cancelled-stays r k q i calls more n h =
     rw (ledgers-append r q calls more (opened r k) (λ p. empty-ledger)) (after-steps-grows r q _ _ _ .cancelled i n h)
 
--- a count or a clear that was accepted names a card and a counter that are there
-sends-there : (r k i q N size : ℕ) (out : List ℕ) → check (ltb i r) bad-replica (send-number k q N size out) ≡ 0 → (i < r) × (q < k)
-unfolding send-number
-sends-there r k i q N size out e =
-    let a = passed (ltb i r) _ 0 e in
-    let b = passed (ltb q k) _ 2 (a .1) in
-    (ltb-true i r (a .0), ltb-true q k (b .0))
+-- an accepted call that makes a message names a card and a counter that are there
+accepted-there : (r k : ℕ) (m : Making) (i q : ℕ) (out : List ℕ) (st : Cards) (ls : ℕ → Ledger) → due-number r k (make m i q out) st ls ≡ 0 → (i < r) × (q < k)
+unfolding due-number
+accepted-there r k m i q out st ls e =
+    let c = make m i q out in
+    let (card, (counter, _)) = first-passes (number-checks r k c st ls) (number-distinct r k c st ls) e in
+    (ltb-true i r card, ltb-true q k counter)
 
 module _ (r k : ℕ) (right : sizes-in-range r k ≡ true) where
   history-told : (calls : List Call) → GenuineHistory r k calls → (q : ℕ)
       → history-ledger r k calls q ≡ ledger-after r q (history-offers calls (opened r k))
-  history-told calls g q = told r k _ _ _ (theory-history r k right calls g) (λ ss fs. after-steps r q ss fs empty-ledger)
+  history-told calls g q = told (theory-history r k right calls g) (λ ss fs. after-steps r q ss fs empty-ledger)
 
   pub cancelled-was-cleared : (calls : List Call) → GenuineHistory r k calls
       → (i q : ℕ) (n : Name) → has (history-ledger r k calls q .cancelled i) n ≡ true → ClearedBySeer r k q calls n
@@ -103,18 +93,15 @@ module _ (r k : ℕ) (right : sizes-in-range r k ≡ true) where
       let w = was-cleared r q i (history-offers calls (opened r k)) n (rw (history-told calls g q) at h) in
       call-at calls (opened r k) (w .before) (w .offer) (w .later) (w .in-list)
       (λ first c rest is firsts same.
-      let clears = clear-call c (w .card) q (ap step-of same ∙ w .is-clear) in
-      let here : calls ≡ first ++ clear (w .card) q (clears .out) ∷ rest = is ∙ ap (λ (x : Call). first ++ x ∷ rest) (clears .is) in
-      let zero : number-of c (cards-after r k first) ≡ 0
-      = eqb-true _ 0 (ap (λ (o : Offer). o .willing) same ∙ and-left (w .offer .willing) _ (w .was-accepted)) in
       record {
         before = first;
+        call = c;
         card = w .card;
-        out = clears .out;
         later = rest;
-        in-list = here;
-        was-accepted = rw (clears .is) at zero;
-        had-received = rw (history-told first (genuine-first first _ (opened r k) (rw here at g)) q, firsts) (w .had-received);
+        in-list = is;
+        is-clear = ap step-of same ∙ w .is-clear;
+        was-accepted = eqb-true _ 0 (ap (λ (o : Offer). o .willing) same ∙ and-left (w .offer .willing) _ (w .was-accepted));
+        had-received = rw (history-told first (genuine-first first _ (opened r k) (rw is at g)) q, firsts) (w .had-received);
       })
 
   pub cleared-is-cancelled : (calls : List Call) → GenuineHistory r k calls
@@ -122,24 +109,24 @@ module _ (r k : ℕ) (right : sizes-in-range r k ≡ true) where
   unfolding numbers
   cleared-is-cancelled calls g q n w =
       let before = theory-history r k right (w .before) (genuine-first (w .before) _ (opened r k) (rw (w .in-list) at g)) in
-      rw (w .in-list, ledgers-append r q (w .before) (clear (w .card) q (w .out) ∷ w .later) (opened r k) (λ p. empty-ledger))
-      (stays-cleared r q (w .card) _ _ (before .cards .invariants q) n (w .had-received) _ _ refl (ap was-accepted (w .was-accepted)) _ _)
+      rw (w .in-list, ledgers-append r q (w .before) (w .call ∷ w .later) (opened r k) (λ p. empty-ledger))
+      (stays-cleared r q (w .card) _ _ (before .cards .invariants q) n (w .had-received) _ _ (w .is-clear) (ap was-accepted (w .was-accepted)) _ _)
 
   -- what the card of an accepted call reads
   accepted-reading : (calls : List Call) (g : GenuineHistory r k calls) (c : Call) → GenuineCall c (cards-after r k calls)
       → number-of c (cards-after r k calls) ≡ 0 → (i q : ℕ) → i < r → q < k
       → read-on (called c (cards-after r k calls) .words i) q ≡ ledger-reading r i (after-accepted r q (call-step c) (history-ledger r k calls q))
   accepted-reading calls g c gc ok i q hi hq =
-      read-matches r k _ _ _ (accepted-leaves r k _ _ _ (went r k right calls g .0) c gc ok .cards) i q hi hq
+      read-matches (cards-at (accepted-leaves (driver-at (went r k right calls g .0)) c gc ok .cards)) i q hi hq
 
   pub after-clear : (calls : List Call) → GenuineHistory r k calls
       → (i q : ℕ) (out : List ℕ)
       → let st = cards-after r k calls in
       let st′ = called (clear i q out) st in
       number-of (clear i q out) st ≡ 0 → (read-on (st′ .words i) q .number ≡ 0) × (read-on (st′ .words i) q .value ≡ 0)
-  unfolding due-number ledger-reading
+  unfolding ledger-reading ledger-action
   after-clear calls g i q out ok =
-      let there = sends-there r k i q _ _ out (sym (call-numbers r k right calls g (clear i q out) tt) ∙ ok) in
+      let there = accepted-there r k Clear i q out _ _ (sym (call-numbers r k right calls g (clear i q out) tt) ∙ ok) in
       let now = accepted-reading calls g (clear i q out) tt ok i q (there .0) (there .1) in (
         ap (λ (a : Reading). a .number) now,
         ap (λ (a : Reading). a .value) now ∙ clear-value r q _ (history-ledger r k calls q) (went r k right calls g .0 .cards .invariants q) i,
@@ -151,9 +138,9 @@ module _ (r k : ℕ) (right : sizes-in-range r k ≡ true) where
       let st′ = called (count i q out) st in
       number-of (count i q out) st ≡ 0
       → (read-on (st .words i) q .number ≡ 0) × (read-on (st′ .words i) q .number ≡ 0) × (read-on (st′ .words i) q .value ≡ read-on (st .words i) q .value + 1)
-  unfolding due-number ledger-reading
+  unfolding ledger-reading ledger-action
   after-count calls g i q out ok =
-      let there = sends-there r k i q _ _ out (sym (call-numbers r k right calls g (count i q out) tt) ∙ ok) in
+      let there = accepted-there r k Count i q out _ _ (sym (call-numbers r k right calls g (count i q out) tt) ∙ ok) in
       let before = driver-theorem r k right calls g i q (there .0) (there .1) in
       let now = accepted-reading calls g (count i q out) tt ok i q (there .0) (there .1) in (
         ap (λ (a : Reading). a .number) before,
@@ -169,7 +156,7 @@ run-ledgers-append : (r k L q : ℕ) (steps more : List Step) (st : State) (ls :
 unfolding answers-of state-after after-steps
 run-ledgers-append r k L q [] more st ls = refl
 run-ledgers-append r k L q (s ∷ steps) more st ls =
-    run-ledgers-append r k L q steps more (step-on r k L s st .state) (λ p. after-step r p (ledger-step s) (was-accepted (step-on r k L s st .answer)) (ls p))
+    run-ledgers-append r k L q steps more (step-on r k L s st .state) (λ p. after-step r p (ledger-step s) (was-accepted (step-on r k L s st .answer .number)) (ls p))
 
 pub run-cancelled-stays : (r k L q i : ℕ) (steps more : List Step) (logs : List ℕ) (n : Name)
     → has (ledger-of r q steps (answers-of r k L steps (fresh-state r k L logs)) .cancelled i) n ≡ true
@@ -182,7 +169,7 @@ run-cancelled-stays r k L q i steps more logs n h =
 step-at : {P : Type 0} (r k L : ℕ) (steps : List Step) (st : State) (before : List Offer) (o : Offer) (later : List Offer)
     → run-offers r k L steps st ≡ before ++ o ∷ later
     → ((first : List Step) (s : Step) (rest : List Step) → steps ≡ first ++ s ∷ rest → run-offers r k L first st ≡ before
-    → offer (ledger-step s) (step-on r k L s (state-after r k L first st) .answer) ≡ o → P) → P
+    → offer (ledger-step s) (step-on r k L s (state-after r k L first st) .answer .number) ≡ o → P) → P
 unfolding answers-of state-after offers-of
 step-at r k L [] st [] o later e found = absurd (nil≢cons e)
 step-at r k L [] st (x ∷ before) o later e found = absurd (nil≢cons e)
@@ -191,20 +178,6 @@ step-at r k L (s ∷ steps) st (x ∷ before) o later e found =
     step-at r k L steps (step-on r k L s st .state) before o later (tail-eq-of-cons-eq e)
     (λ first s′ rest is firsts same.
     found (s ∷ first) s′ rest (ap (λ (ss : List Step). s ∷ ss) is) (ap₂ (λ (y : Offer) (ys : List Offer). y ∷ ys) (head-eq-of-cons-eq e) firsts) same)
-
-record ClearStep (s : Step) (i q : ℕ) : Type 0 where
-  kind-is : s .kind ≡ clear-kind
-  card-is : s .first ≡ i
-  counter-is : s .second ≡ q
-
-clear-step : (i q : ℕ) (s : Step) → ledger-step s ≡ ledger.clear i q → ClearStep s i q
-clear-step i q =
-    by-kind (λ s. ledger-step s ≡ ledger.clear i q → ClearStep s i q)
-    (λ j p e. record { kind-is = cc; card-is = cc; counter-is = cc })
-    (λ j p e. record { kind-is = refl; card-is = cc; counter-is = cc })
-    (λ j p e. record { kind-is = cc; card-is = cc; counter-is = cc })
-    (λ s a b c e. let none : ledger.deliver (s .first) (s .second) ≡ ledger.clear i q = rw (ne-eqb (s .kind) count-kind a, ne-eqb (s .kind) clear-kind b) at e in
-    record { kind-is = cc; card-is = cc; counter-is = cc })
 
 module _ (r k L : ℕ) (steps : List Step) (words logs answers : List ℕ) (right : sizes-right r k L (length steps) words logs answers ≡ true) where
   abbrev begins : State
@@ -215,7 +188,7 @@ module _ (r k L : ℕ) (steps : List Step) (words logs answers : List ℕ) (righ
 
   run-told : (first : List Step) (q : ℕ) → ledger-of r q first (answers-of r k L first begins) ≡ ledger-after r q (run-offers r k L first begins)
   unfolding ledger-of
-  run-told first q = told r k _ _ _ (ran first) (λ ss fs. after-steps r q ss fs empty-ledger)
+  run-told first q = told (ran first) (λ ss fs. after-steps r q ss fs empty-ledger)
 
   pub run-cancelled-was-cleared : (i q : ℕ) (n : Name) → has (ledger-of r q steps (run-on r k L steps words logs answers .answers) .cancelled i) n ≡ true
       → ClearStepBySeer r k L q steps logs n
@@ -223,22 +196,20 @@ module _ (r k L : ℕ) (steps : List Step) (words logs answers : List ℕ) (righ
       let w = was-cleared r q i (run-offers r k L steps begins) n (rw (answers-are r k L steps words logs answers right, run-told steps q) at h) in
       step-at r k L steps begins (w .before) (w .offer) (w .later) (w .in-list)
       (λ first s rest is firsts same.
-      let clears = clear-step (w .card) q s (ap step-of same ∙ w .is-clear) in
       record {
         before = first;
         step = s;
+        card = w .card;
         later = rest;
         in-list = is;
-        kind-is = clears .kind-is;
-        counter-is = clears .counter-is;
+        is-clear = ap step-of same ∙ w .is-clear;
         was-accepted = eqb-true _ 0 (ap (λ (o : Offer). o .willing) same ∙ and-left (w .offer .willing) _ (w .was-accepted));
-        had-received = rw (clears .card-is, run-told first q, firsts) (w .had-received);
+        had-received = rw (run-told first q, firsts) (w .had-received);
       })
 
   pub run-cleared-is-cancelled : (q : ℕ) (n : Name) (w : ClearStepBySeer r k L q steps logs n)
-      → has (ledger-of r q steps (run-on r k L steps words logs answers .answers) .cancelled (w .step .first)) n ≡ true
+      → has (ledger-of r q steps (run-on r k L steps words logs answers .answers) .cancelled (w .card)) n ≡ true
   unfolding ledger-of answers-of
   run-cleared-is-cancelled q n w =
-      let clears : ledger-step (w .step) ≡ ledger.clear (w .step .first) q = rw (w .kind-is, w .counter-is) in
       rw (answers-are r k L steps words logs answers right, w .in-list, run-ledgers-append r k L q (w .before) (w .step ∷ w .later) begins (λ p. empty-ledger))
-      (stays-cleared r q (w .step .first) _ _ (ran (w .before) .cards .invariants q) n (w .had-received) _ _ clears (ap was-accepted (w .was-accepted)) _ _)
+      (stays-cleared r q (w .card) _ _ (ran (w .before) .cards .invariants q) n (w .had-received) _ _ (w .is-clear) (ap was-accepted (w .was-accepted)) _ _)

@@ -7,25 +7,24 @@ use native.Mathlib.Omega.{arith}
 use lib.ListN.{length, take, drop, length-drop}
 use lib.Dec.{leb}
 use borrow.Author.Tests.{leb-true}
-use Rattle.protocol.specs.Limits.{MAX}
 use Rattle.protocol.specs.Cases.{by-place, by-test, and-left}
 use Rattle.protocol.specs.Tables.{put, put-same, put-other}
-use Rattle.protocol.specs.Ledger.{Ledger}
 use Rattle.protocol.specs.Chassis as protocol
-use Rattle.protocol.specs.Chassis.{Message, Replica, Chassis, taken, issued}
+use Rattle.protocol.specs.Chassis.{Message, Replica, taken, issued}
 use Rattle.protocol.specs.InvariantSteps.{taken-N}
 use Rattle.wire.specs.declared.Message as wire
 use Rattle.wire.specs.Message.{called-length, reads, front-length, message-length}
-use Rattle.replica_model.specs.Calls.{on-wire}
+use Rattle.replica_model.specs.Format.{on-wire}
 use Rattle.chassis_model.specs.Log.{end-of}
 use Rattle.chassis_model.specs.LogLaws.{Readable, AllReadable, written, end-moves, ends-stay}
-use Rattle.chassis_model.specs.Numbered.{wire-log, length-numbered, Sendable}
-use Rattle.chassis_model.specs.Run.{State, replica-of, log-of, N-at, free-from}
-use Rattle.chassis_model.specs.InStep.{reached-N, received-few, made-all}
-use Rattle.chassis_model.specs.Matches.{Holds, Matches}
-use Rattle.chassis_model.specs.Takes.{turn}
-use Rattle.chassis_model.specs.Made.{state-made, log-made, made-shows}
-use Rattle.chassis_model.specs.Delivered.{turn-stands, state-delivered, delivered-shows}
+use Rattle.chassis_model.specs.Numbered.{wire-log, length-numbered}
+use Rattle.chassis_model.specs.Run.{State, log-of, N-at}
+use Rattle.chassis_model.specs.InStep.{reached-N, received-few, own-N}
+use Rattle.chassis_model.specs.Matches.{Holds, RunAt, run-cards, words-in, log-in, N-in, room-in}
+use Rattle.chassis_model.specs.Sends.{Outgoing}
+use Rattle.chassis_model.specs.Moves.{due-message}
+use Rattle.chassis_model.specs.MadeSteps.{as-sent, log-with, state-made, log-made, made-shows}
+use Rattle.chassis_model.specs.DeliveredSteps.{due-stands, state-delivered, delivered-shows}
 
 -- ---- messages end in their log
 
@@ -72,67 +71,66 @@ module _ (log : List ℕ) (ms : List wire.Message) (on : Holds log ms) (readable
 
 -- ---- a message made by card i
 
-module _ (r k L : ℕ) (st : State) (ch : Chassis) (ls : ℕ → Ledger) (h : Matches r k L st ch ls) (i : ℕ) (hi : i < r) (m : Message) (sends : Sendable r k m)
-    (few : N-at r k L st i i < MAX) (good : Readable (on-wire i (N-at r k L st i i + 1) m))
-    (room : message-length (on-wire i (N-at r k L st i i + 1) m) ≤ length (drop (free-from r k L st i) (log-of r k L st i))) where
-  own-all : N-at r k L st i i ≡ length (wire-log i (ch .log i))
-  own-all = reached-N r k (replica-of r k L st) ch ls (h .cards) i i hi hi ∙ made-all r k (replica-of r k L st) ch ls (h .cards) i ∙ sym (length-numbered i 0 (ch .log i))
+module _ {r k L : ℕ} (now : RunAt r k L) (i : ℕ) (hi : i < r) (m : Message) (goes : Outgoing r k i (words-in now i) m)
+    (room : message-length (as-sent now i m) ≤ length (room-in now i)) where
+  own-all : N-in now i i ≡ length (wire-log i (now .chassis .log i))
+  own-all = own-N (run-cards now) i hi ∙ sym (length-numbered i 0 (now .chassis .log i))
 
-  N-made-here : N-at r k L (state-made r k L st i m) i i ≡ suc (N-at r k L st i i)
+  N-made-here : N-at r k L (state-made now i m) i i ≡ suc (N-in now i i)
   unfolding issued
   N-made-here =
-      made-shows r k L st ch ls h i hi m sends few good room .shows i hi .Ns i hi ∙ N-here i i m (ch .replica) ∙ ap suc (sym (reached-N r k (replica-of r k L st) ch ls (h .cards) i i hi hi))
+      made-shows now i hi m goes .shows i hi .Ns i hi ∙ N-here i i m (now .chassis .replica) ∙ ap suc (sym (reached-N (run-cards now) i i hi hi))
 
-  N-made-there : (j t : ℕ) → j < r → t < r → (j ≡ i → t ≡ i → ⊥) → N-at r k L (state-made r k L st i m) j t ≡ N-at r k L st j t
+  N-made-there : (j t : ℕ) → j < r → t < r → (j ≡ i → t ≡ i → ⊥) → N-at r k L (state-made now i m) j t ≡ N-in now j t
   unfolding issued
   N-made-there j t hj ht d =
-      made-shows r k L st ch ls h i hi m sends few good room .shows j hj .Ns t ht ∙ N-there i i m (ch .replica) j t d ∙ sym (reached-N r k (replica-of r k L st) ch ls (h .cards) j t hj ht)
+      made-shows now i hi m goes .shows j hj .Ns t ht ∙ N-there i i m (now .chassis .replica) j t d ∙ sym (reached-N (run-cards now) j t hj ht)
 
-  log-here : log-of r k L (state-made r k L st i m) i ≡ written (free-from r k L st i) (on-wire i (N-at r k L st i i + 1) m) (log-of r k L st i)
-  log-here = log-made r k L st ch ls h i hi m sends few good room i ∙ put-same i _ (log-of r k L st)
+  log-here : log-of r k L (state-made now i m) i ≡ log-with now i m
+  log-here = log-made now i hi m goes room i ∙ put-same i _ (log-in now)
 
-  log-there : (t : ℕ) → (t ≡ i → ⊥) → log-of r k L (state-made r k L st i m) t ≡ log-of r k L st t
-  log-there t d = log-made r k L st ch ls h i hi m sends few good room t ∙ put-other i _ (log-of r k L st) t d
+  log-there : (t : ℕ) → (t ≡ i → ⊥) → log-of r k L (state-made now i m) t ≡ log-in now t
+  log-there t d = log-made now i hi m goes room t ∙ put-other i _ (log-in now) t d
 
   -- what a card has received is no more than i had made
-  received-before : (j : ℕ) → j < r → N-at r k L st j i ≤ N-at r k L st i i
+  received-before : (j : ℕ) → j < r → N-in now j i ≤ N-in now i i
   received-before j hj =
-      rw (reached-N r k (replica-of r k L st) ch ls (h .cards) j i hj hi, reached-N r k (replica-of r k L st) ch ls (h .cards) i i hi hi, made-all r k (replica-of r k L st) ch ls (h .cards) i) (received-few r k (replica-of r k L st) ch ls (h .cards) j i)
+      rw (reached-N (run-cards now) j i hj hi, own-N (run-cards now) i hi) (received-few (run-cards now) j i)
 
-  pub end-made : ends-in r k L (state-made r k L st i m) i i ≡ ends-in r k L st i i + message-length (on-wire i (N-at r k L st i i + 1) m)
+  pub end-made : ends-in r k L (state-made now i m) i i ≡ ends-in r k L (now .state) i i + message-length (as-sent now i m)
   end-made =
       rw (N-made-here, log-here)
-      (end-more (log-of r k L st i) (wire-log i (ch .log i)) (h .holds i hi) (h .cards .cards-show .readable i hi) (on-wire i (N-at r k L st i i + 1) m) good (N-at r k L st i i) own-all)
+      (end-more (log-in now i) (wire-log i (now .chassis .log i)) (now .matches .holds i hi) (now .matches .cards .cards-show .readable i hi) (as-sent now i m) (goes .readable) (N-in now i i) own-all)
 
-  pub ends-made : (j t : ℕ) → j < r → t < r → (j ≡ i → t ≡ i → ⊥) → ends-in r k L (state-made r k L st i m) j t ≡ ends-in r k L st j t
+  pub ends-made : (j t : ℕ) → j < r → t < r → (j ≡ i → t ≡ i → ⊥) → ends-in r k L (state-made now i m) j t ≡ ends-in r k L (now .state) j t
   ends-made j t hj ht d =
       rw (N-made-there j t hj ht d)
       (by-place t i
       (λ e. rw (e, log-here)
-      (end-same (log-of r k L st i) (wire-log i (ch .log i)) (h .holds i hi) (h .cards .cards-show .readable i hi) (on-wire i (N-at r k L st i i + 1) m) good (N-at r k L st i i) own-all
-      (N-at r k L st j i) (received-before j hj)))
+      (end-same (log-in now i) (wire-log i (now .chassis .log i)) (now .matches .holds i hi) (now .matches .cards .cards-show .readable i hi) (as-sent now i m) (goes .readable) (N-in now i i) own-all
+      (N-in now j i) (received-before j hj)))
       (λ f. rw (log-there t f)))
 
 -- ---- a message of card s handed over to card i
 
-module _ (r k L : ℕ) (st : State) (ch : Chassis) (ls : ℕ → Ledger) (h : Matches r k L st ch ls) (i s : ℕ) (hi : i < r) (hs : s < r)
-    (waits : N-at r k L st i s < N-at r k L st s s) (apart : i ≡ s → ⊥) where
-  N-delivered-here : N-at r k L (state-delivered r k L st i s (turn ch i s)) i s ≡ suc (N-at r k L st i s)
+module _ {r k L : ℕ} (now : RunAt r k L) (i s : ℕ) (hi : i < r) (hs : s < r)
+    (waits : N-in now i s < N-in now s s) (apart : i ≡ s → ⊥) where
+  N-delivered-here : N-at r k L (state-delivered now i s) i s ≡ suc (N-in now i s)
   unfolding protocol.delivered
   N-delivered-here =
-      delivered-shows r k L st ch ls h i s hi hs waits apart .shows i hi .Ns s hs ∙ N-here i s (turn ch i s) (ch .replica)
-      ∙ ap suc (sym (reached-N r k (replica-of r k L st) ch ls (h .cards) i s hi hs))
+      delivered-shows now i s hi hs waits apart .shows i hi .Ns s hs ∙ N-here i s (due-message (now .chassis) i s) (now .chassis .replica)
+      ∙ ap suc (sym (reached-N (run-cards now) i s hi hs))
 
-  N-delivered-there : (j t : ℕ) → j < r → t < r → (j ≡ i → t ≡ s → ⊥) → N-at r k L (state-delivered r k L st i s (turn ch i s)) j t ≡ N-at r k L st j t
+  N-delivered-there : (j t : ℕ) → j < r → t < r → (j ≡ i → t ≡ s → ⊥) → N-at r k L (state-delivered now i s) j t ≡ N-in now j t
   unfolding protocol.delivered
   N-delivered-there j t hj ht d =
-      delivered-shows r k L st ch ls h i s hi hs waits apart .shows j hj .Ns t ht ∙ N-there i s (turn ch i s) (ch .replica) j t d
-      ∙ sym (reached-N r k (replica-of r k L st) ch ls (h .cards) j t hj ht)
+      delivered-shows now i s hi hs waits apart .shows j hj .Ns t ht ∙ N-there i s (due-message (now .chassis) i s) (now .chassis .replica) j t d
+      ∙ sym (reached-N (run-cards now) j t hj ht)
 
-  pub end-delivered : ends-in r k L (state-delivered r k L st i s (turn ch i s)) i s
-      ≡ ends-in r k L st i s + message-length (on-wire s (N-at r k L st i s + 1) (turn ch i s))
-  end-delivered = rw N-delivered-here (turn-stands r k L st ch ls h i s hi hs waits .next)
+  pub end-delivered : ends-in r k L (state-delivered now i s) i s
+      ≡ ends-in r k L (now .state) i s + message-length (on-wire s (N-in now i s + 1) (due-message (now .chassis) i s))
+  end-delivered = rw N-delivered-here (due-stands now i s hi hs waits .next)
 
   pub ends-delivered : (j t : ℕ) → j < r → t < r → (j ≡ i → t ≡ s → ⊥)
-      → ends-in r k L (state-delivered r k L st i s (turn ch i s)) j t ≡ ends-in r k L st j t
+      → ends-in r k L (state-delivered now i s) j t ≡ ends-in r k L (now .state) j t
   ends-delivered j t hj ht d = rw (N-delivered-there j t hj ht d)

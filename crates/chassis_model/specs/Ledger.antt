@@ -1,28 +1,35 @@
--- DEFINITIONS. The ledger of a counter beside a run (document 01, "The ledger"): fed the list's steps and which of them were accepted, and nothing else.
+-- DEFINITIONS. The ledger of a counter beside a run (SPECIFICATION 7): fed the list's steps and which of them were accepted, and nothing else.
 use Prim.Native.Nat.{ℕ}
 use mathlib.Core.List.{List, map}
-use mathlib.Core.Bool.{Bool, cond}
+use mathlib.Core.Bool.{Bool}
 use lib.Dec.{eqb}
 use Rattle.protocol.specs.Ledger as protocol
 use Rattle.protocol.specs.Ledger.{Ledger, count, clear, deliver, empty-ledger, after-steps, holds, ledger-value, ledger-holders}
+use Rattle.protocol.specs.Functions.{count-below}
 use Rattle.replica_model.specs.declared.Reading.{Reading}
-use Rattle.replica_model.specs.Calls.{count-below}
-use Rattle.chassis_model.specs.declared.Step.{Step}
-use Rattle.chassis_model.specs.Run.{count-kind, clear-kind}
+use Rattle.chassis_model.specs.Run.{Step, Action, Make, Deliver, Nothing, Count, Clear, action-of}
 
--- the step as the ledger knows it; a count is by one unit, and a step of no kind is never accepted
+-- the action as the ledger knows it. A count is by one unit. A step of no kind is never accepted: nothing is handed over from a card to itself
+unfoldable pub ledger-action : Action → protocol.Step
+ledger-action (Make Count i q) = count i q 1
+ledger-action (Make Clear i q) = clear i q
+ledger-action (Deliver i s) = deliver i s
+ledger-action Nothing = deliver 0 0
+
 abbrev pub ledger-step : Step → protocol.Step
-ledger-step s =
-    cond (eqb (s .kind) count-kind) (count (s .first) (s .second) 1)
-    (cond (eqb (s .kind) clear-kind) (clear (s .first) (s .second)) (deliver (s .first) (s .second)))
+ledger-step s = ledger-action (action-of s)
 
 -- "told which of them were accepted (number 0)"
 abbrev pub was-accepted : ℕ → Bool
-was-accepted answer = eqb answer 0
+was-accepted number = eqb number 0
+
+-- of the answer words of a list of steps: which steps were accepted
+abbrev pub accepted-of : List ℕ → List Bool
+accepted-of answers = map was-accepted answers
 
 -- the ledger of counter q on a chassis of r cards, after the steps with these answers
 unfoldable pub ledger-of : ℕ → ℕ → List Step → List ℕ → Ledger
-ledger-of r q steps answers = after-steps r q (map ledger-step steps) (map was-accepted answers) empty-ledger
+ledger-of r q steps answers = after-steps r q (map ledger-step steps) (accepted-of answers) empty-ledger
 
 -- an accepted read that gives the ledger's value and holding cards at card i
 unfoldable pub ledger-reading : ℕ → ℕ → Ledger → Reading

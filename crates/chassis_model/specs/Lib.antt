@@ -37,6 +37,7 @@ pub mod InStep
 pub mod Moves
 pub mod AcceptedMessages
 pub mod Reads
+pub mod Makings
 pub mod Sends
 pub mod Takes
 -- Lists of steps and answers as runs of the theory.
@@ -46,10 +47,9 @@ pub mod Agreement
 -- A state of a run beside them, and the steps, each beside the theory's.
 pub mod Matches
 pub mod FreshRun
-pub mod Stepping
-pub mod Made
-pub mod Delivered
-pub mod Steps
+pub mod MadeSteps
+pub mod DeliveredSteps
+pub mod StepLaws
 -- Which runs are accepted; steps as bytes and as records.
 pub mod RunLaws
 pub mod StepBytesLaws

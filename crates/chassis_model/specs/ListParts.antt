@@ -1,4 +1,4 @@
--- DEFINITIONS. A list cut into parts of n elements each: "Each card's book is its own stretch of the lent words", and so is its log of the log bytes.
+-- DEFINITIONS. A list cut into parts of n elements each: "Each card's replica is its own stretch of the caller's words", and so is its log of the log bytes.
 use Prim.Native.Nat.{ℕ, _+_, _*_}
 use mathlib.Core.List.{List, _++_}
 use lib.ListN.{take, drop}

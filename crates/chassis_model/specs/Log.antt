@@ -1,4 +1,4 @@
--- DEFINITIONS. The messages at the front of a log, and the waiting message (document 01, "Chassis").
+-- DEFINITIONS. The messages at the front of a log, and the waiting message (SPECIFICATION 6).
 use Prim.Native.Nat.{ℕ, zero, suc, _+_, _-_}
 use mathlib.Core.List.{List, []}
 use mathlib.Core.Bool.{cond}

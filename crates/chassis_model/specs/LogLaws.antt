@@ -11,17 +11,18 @@ use lib.ListN.{length, getD, take, drop, length-append}
 use lib.Seq.{take-suc, drop-cons, take-append-seam, drop-append-seam, drop-append-add, getD-append-seam, take-append-le, take-length, take-at}
 use lib.Dec.{eqb}
 use borrow.Author.Tests.{eq-eqb, ne-eqb}
+use Rattle.protocol.specs.Limits.{most-cards}
 use Rattle.protocol.specs.Cases.{by-test}
 use Rattle.protocol.specs.Lists.{places-more}
 use Rattle.wire.specs.declared.Message.{Message}
-use Rattle.wire.specs.Message.{no-message, message-bytes, message-length, clear-kind, in-range, called-length, front-length, over}
+use Rattle.wire.specs.Message.{no-message, message-bytes, message-length, clear-kind, in-range, called-length, front-length, over, shortest-message}
 use Rattle.wire.specs.Claims.{message-bytes-length, front-of-message}
 use Rattle.chassis_model.specs.Log.{waiting-part, end-of}
 
 -- a message that reads once it is written
 pub record Readable (m : Message) : Type 0 where
   pub fits : in-range m ≡ true
-  pub held : length (m .entries) ≡ 16
+  pub held : length (m .entries) ≡ most-cards
 
 abbrev pub AllReadable : List Message → Type 0
 AllReadable ms = (n : ℕ) → n < length ms → Readable (getD ms n no-message)
@@ -33,7 +34,7 @@ log-bytes (m ∷ ms) = message-bytes m ++ log-bytes ms
 
 -- ---- the bytes of messages
 
-least-message : (m : Message) → 28 ≤ message-length m
+least-message : (m : Message) → shortest-message ≤ message-length m
 least-message m = by-test (eqb (m .kind) clear-kind) (λ e. rw e (omega arith)) (λ e. rw e (omega arith))
 
 -- one more message at the end
@@ -42,7 +43,7 @@ unfolding log-bytes
 log-bytes-append [] m = append-nil (message-bytes m)
 log-bytes-append (x ∷ ms) m = rw (log-bytes-append ms m) (sym (append-assoc (message-bytes x) (log-bytes ms) (message-bytes m)))
 
--- ---- one turn of the walk along a log
+-- ---- the waiting part, by how far the message is
 
 module _ (q : ℕ) (log : List ℕ) where
   -- none is asked for
@@ -129,7 +130,7 @@ waiting-of-bytes (m ∷ ms) rest all (suc n) l =
 -- message m is the one after the first n of the log, and all its bytes are there
 pub record Stands (log : List ℕ) (n : ℕ) (m : Message) : Type 0 where
   pub called : called-length (drop (end-of n log) log) ≡ message-length m
-  pub header : 28 ≤ length (drop (end-of n log) log)
+  pub header : shortest-message ≤ length (drop (end-of n log) log)
   pub room : message-length m ≤ length (drop (end-of n log) log)
   pub next : end-of (suc n) log ≡ end-of n log + message-length m
   pub waits : waiting-part (suc n) log ≡ message-bytes m

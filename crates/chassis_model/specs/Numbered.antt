@@ -7,13 +7,15 @@ use native.Mathlib.Omega.{arith}
 use lib.ListN.{length, getD, replicate}
 use lib.Seq.{take-append-seam}
 use lib.Dec.{eqb}
+use Rattle.protocol.specs.Limits.{most-cards}
 use Rattle.protocol.specs.Chassis as protocol
 use Rattle.protocol.specs.Chassis.{increment, clearing, no-message, counter-of}
 use Rattle.protocol.specs.StoreLaws.{CardsBelow, InLimits}
+use Rattle.protocol.specs.Acceptance.{entries-of}
 use Rattle.wire.specs.declared.Message as wire
 use Rattle.wire.specs.Message as form
 use Rattle.wire.specs.Message.{no-entry, increment-message}
-use Rattle.replica_model.specs.Calls.{on-wire, content}
+use Rattle.replica_model.specs.Format.{on-wire, content}
 
 -- card j's messages ms, of which the first has number n + 1
 unfoldable pub numbered : ℕ → ℕ → List protocol.Message → List wire.Message
@@ -67,6 +69,10 @@ pub sendable-limits : (r k : ℕ) (m : protocol.Message) → Sendable r k m → 
 sendable-limits r k (increment q w p start) s = s .0
 sendable-limits r k (clearing q ts) s = s
 
+pub sendable-entries : (r k : ℕ) (m : protocol.Message) → Sendable r k m → CardsBelow r (entries-of m)
+sendable-entries r k (increment q w p start) sends = tt
+sendable-entries r k (clearing q ts) sends = sends .1
+
 pub sendable-counter : (r k : ℕ) (m : protocol.Message) → Sendable r k m → counter-of m < k
 sendable-counter r k (increment q w p start) s = s .0
 sendable-counter r k (clearing q ts) s = s .0
@@ -80,7 +86,7 @@ start-flag false = refl
 pub content-on-wire : (r k sender sequence : ℕ) (m : protocol.Message) → Sendable r k m → content (on-wire sender sequence m) ≡ m
 unfolding content increment-message form.clear-message
 content-on-wire r k sender sequence (increment q w p start) s = rw (s .1, start-flag start)
-content-on-wire r k sender sequence (clearing q ts) s = ap (clearing q) (take-append-seam ts (replicate (16 - length ts) no-entry))
+content-on-wire r k sender sequence (clearing q ts) s = ap (clearing q) (take-append-seam ts (replicate (most-cards - length ts) no-entry))
 
 -- what stands in a message on the wire
 pub on-wire-sender : (sender sequence : ℕ) (m : protocol.Message) → on-wire sender sequence m .sender ≡ sender

@@ -15,7 +15,7 @@ use Rattle.chassis_model.specs.Run.{Step, State, N-at, replica-of, log-o
 abbrev pub state-links : ℕ → ℕ → ℕ → Transport State
 state-links r k L = record {
   waiting = λ i s st. N-at r k L st s s - N-at r k L st i s;
-  attempt = λ i s st. record { accepted = eqb (delivered r k L i s st .answer) 0; state = delivered r k L i s st .state };
+  attempt = λ i s st. record { accepted = eqb (delivered r k L i s st .answer .number) 0; state = delivered r k L i s st .state };
 }
 
 -- one call, at most b deliveries; and what waits before it or after it

@@ -1,25 +1,27 @@
 -- LAWS. The transport of words and bytes is orderly on every state that the checks before a call pass (`Checked`), reached by a run or not: a delivery that is
 -- accepted raises the receiver's N of the sender by one and nothing else of N, and one that is declined leaves all as it was.
 use Prim.Native.Nat.{ℕ, suc, _+_, _-_, _<_}
-use mathlib.Core.Path.{_≡_, sym, ap, _∙_}
+use mathlib.Core.Path.{_≡_, refl, sym, ap, _∙_}
 use mathlib.Core.Bool.{true, false}
 use mathlib.Core.List.{List}
 use native.Mathlib.Omega.{arith}
 use lib.Dec.{eqb}
 use lib.ListN.{length}
-use borrow.Author.Tests.{lt-ltb, eqb-true, eqb-false}
+use borrow.Author.Tests.{eqb-true, eqb-false}
 use Rattle.protocol.specs.Cases.{by-place}
 use Rattle.protocol.specs.Tables.{put, put-same, put-other, put-at}
 use Rattle.protocol.specs.RoundRobin.{IsLink, Orderly}
 use Rattle.wire.specs.Message.{message-at}
 use Rattle.replica_model.specs.Layout.{replica-length}
-use Rattle.replica_model.specs.Calls.{take-on, content}
+use Rattle.replica_model.specs.Calls.{take-on}
 use Rattle.replica_model.specs.ClaimTerms.{OnlyMoves}
 use Rattle.replica_model.specs.Claims.{take-performs, take-moves, take-exact}
+use Rattle.replica_model.specs.Format.{content}
+use Rattle.replica_model.specs.LayoutLaws.{same-cards, same-counters, same-own}
 use Rattle.chassis_model.specs.ListParts.{put-part}
 use Rattle.chassis_model.specs.ListPartsLaws.{part-put, put-part-length, put-part-same}
 use Rattle.chassis_model.specs.Log.{waiting-part}
-use Rattle.chassis_model.specs.Run.{State, N-at, replica-of, log-of, delivered}
+use Rattle.chassis_model.specs.Run.{State, answered, N-at, replica-of, log-of, delivered}
 use Rattle.chassis_model.specs.Pending.{state-links, Checked}
 
 module _ (r k L i s : ℕ) (st : State) (is : IsLink r i s) (g : Checked r k L st) (w : 0 < N-at r k L st s s - N-at r k L st i s) where
@@ -30,13 +32,16 @@ module _ (r k L i s : ℕ) (st : State) (is : IsLink r i s) (g : Checked r k L s
   words = take-on (replica-of r k L st i) bytes .words
 
   one-tried : delivered r k L i s st
-      ≡ record { answer = take-on (replica-of r k L st i) bytes .answer .number; state = record { words = put-part (replica-length r k) i words (st .words); logs = st .logs } }
+      ≡ record {
+        answer = answered (take-on (replica-of r k L st i) bytes .answer .number);
+        state = record { words = put-part (replica-length r k) i words (st .words); logs = st .logs };
+      }
   unfolding delivered
-  one-tried = rw (lt-ltb (N-at r k L st i s) (N-at r k L st s s) (omega arith))
+  one-tried = refl
 
-  module _ (e : eqb (delivered r k L i s st .answer) 0 ≡ true) where
+  module _ (e : eqb (delivered r k L i s st .answer .number) 0 ≡ true) where
     taken : take-on (replica-of r k L st i) bytes .answer .number ≡ 0
-    taken = sym (ap (λ z. z .answer) one-tried) ∙ eqb-true (delivered r k L i s st .answer) 0 e
+    taken = sym (ap (λ stepped. stepped .answer .number) one-tried) ∙ eqb-true (delivered r k L i s st .answer .number) 0 e
 
     from-s : message-at bytes .sender ≡ s
     from-s = g .senders s (N-at r k L st i s) (is .1) (omega arith)
@@ -69,21 +74,22 @@ module _ (r k L i s : ℕ) (st : State) (is : IsLink r i s) (g : Checked r k L s
           rw (replica-after j)
           (by-place j i
           (λ c.
-          let p = take-performs (replica-of r k L st i) bytes taken in
+          let b = replica-of r k L st i in
+          let p = take-performs b bytes taken in
           rw (put-at i words (replica-of r k L st) j c, c)
-          (p .same-cards ∙ g .heads i (is .0) .0, p .same-counters ∙ g .heads i (is .0) .1, p .same-own ∙ g .heads i (is .0) .2))
+          (same-cards b words (p .same-head) ∙ g .heads i (is .0) .0, same-counters b words (p .same-head) ∙ g .heads i (is .0) .1, same-own b words (p .same-head) ∙ g .heads i (is .0) .2))
           (λ d. rw (put-other i words (replica-of r k L st) j d) (g .heads j hj)));
       senders = λ u n hu l.
           let same : log-of r k L (delivered r k L i s st .state) u ≡ log-of r k L st u = rw one-tried in
           rw same (g .senders u n hu (rw (N-there u u hu (λ c d. is .2 (sym c ∙ d))) at l));
     }
 
-  declined-same : eqb (delivered r k L i s st .answer) 0 ≡ false → delivered r k L i s st .state ≡ st
+  declined-same : eqb (delivered r k L i s st .answer .number) 0 ≡ false → delivered r k L i s st .state ≡ st
   declined-same e =
-      let d = eqb-false (delivered r k L i s st .answer) 0 e in
+      let d = eqb-false (delivered r k L i s st .answer .number) 0 e in
       let no : take-on (replica-of r k L st i) bytes .words ≡ replica-of r k L st i
-      = ap (λ z. z .words) (take-exact (replica-of r k L st i) bytes .refused (λ z. d (ap (λ z. z .answer) one-tried ∙ z))) in
-      ap (λ z. z .state) one-tried ∙ rw (no, put-part-same (replica-length r k) i (st .words))
+      = ap (λ outcome. outcome .words) (take-exact (replica-of r k L st i) bytes .refused (λ z. d (ap (λ stepped. stepped .answer .number) one-tried ∙ z))) in
+      ap (λ stepped. stepped .state) one-tried ∙ rw (no, put-part-same (replica-length r k) i (st .words))
 
 module _ (r k L : ℕ) where
   pub checked-orderly : Orderly (state-links r k L) r (Checked r k L)

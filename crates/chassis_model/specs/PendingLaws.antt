@@ -7,10 +7,10 @@ use mathlib.Core.List.{List, [], _∷_, _++_, map}
 use native.Mathlib.Omega.{arith}
 use lib.Dec.{eqb}
 use lib.ListN.{length}
-use borrow.Author.Tests.{lt-ltb, ne-eqb, eqb-true}
-use Rattle.protocol.specs.Ledger.{Ledger, empty-ledger}
+use borrow.Author.Tests.{eqb-true}
+use Rattle.protocol.specs.Ledger.{Ledger}
 use Rattle.protocol.specs.Chassis as protocol
-use Rattle.protocol.specs.Chassis.{Chassis, fresh-chassis}
+use Rattle.protocol.specs.Chassis.{Chassis}
 use Rattle.protocol.specs.RoundRobin.{Link, IsLink, replayed, AllDeliver, Orderly}
 use Rattle.protocol.specs.RoundRobinMade.{CallOk, call-ok}
 use Rattle.protocol.specs.RoundRobinEnd.{drained, never-passed}
@@ -18,17 +18,14 @@ use Rattle.protocol.specs.PendingLaws.{N-link, N-elsewhere}
 use Rattle.wire.specs.Message.{message-at}
 use Rattle.replica_model.specs.Calls.{read-on}
 use Rattle.chassis_model.specs.Log.{waiting-part}
-use Rattle.chassis_model.specs.LogLaws.{stands-in-log}
-use Rattle.chassis_model.specs.Numbered.{wire-log, wire-log-at, length-numbered}
 use Rattle.chassis_model.specs.Takes.{fields-are}
-use Rattle.chassis_model.specs.Run.{Step, State, N-at, replica-of, log-of, delivered, cards-right, step-on, state-after, answers-of, deliver-kind}
+use Rattle.chassis_model.specs.Run.{Step, Deliver, action-of, State, N-at, replica-of, delivered, step-on, state-after, answers-of, deliver-kind}
 use Rattle.chassis_model.specs.Answers.{fresh-state}
-use Rattle.chassis_model.specs.InStep.{reached-N, made-all}
-use Rattle.chassis_model.specs.Matches.{Sizes, Matches}
+use Rattle.chassis_model.specs.InStep.{reached-N, own-N}
+use Rattle.chassis_model.specs.Matches.{Sizes, Matches, RunAt, run-at, run-cards, log-in, N-in, message-stands}
 use Rattle.chassis_model.specs.FreshRun.{fresh-matches}
-use Rattle.chassis_model.specs.Stepping.{step-of-kind}
-use Rattle.chassis_model.specs.Delivered.{one-delivered, delivered-shows}
-use Rattle.chassis_model.specs.Steps.{link-matches}
+use Rattle.chassis_model.specs.StepLaws.{performed-is, link-passes, link-matches}
+use Rattle.chassis_model.specs.DeliveredSteps.{one-delivered, delivered-shows}
 use Rattle.chassis_model.specs.Theorem.{run-matches, state-run}
 use Rattle.chassis_model.specs.Agreement.{same-reads, received-all}
 use Rattle.chassis_model.specs.Pending.{state-links, pump, all-waiting, pump-steps, Checked}
@@ -39,65 +36,66 @@ record Reached (r k L : ℕ) (st : State) : Type 0 where
   ledgers : ℕ → Ledger
   matches : Matches r k L st chassis ledgers
 
-module _ (r k L : ℕ) (i s : ℕ) (st : State) (is : IsLink r i s) (g : Reached r k L st) (w : 0 < N-at r k L st s s - N-at r k L st i s) where
-  accepts : eqb (delivered r k L i s st .answer) 0 ≡ true
-  accepts = rw (one-delivered r k L st (g .chassis) (g .ledgers) (g .matches) i s (is .0) (is .1) (omega arith) (is .2))
+abbrev run-of : {r k L : ℕ} {st : State} → Reached r k L st → RunAt r k L
+run-of g = run-at (g .matches)
 
-  after : Reached r k L (delivered r k L i s st .state)
-  after = record { chassis = _; ledgers = _; matches = link-matches r k L st (g .chassis) (g .ledgers) (g .matches) i s (is .0) (is .1) (is .2) .0 }
+module _ {r k L : ℕ} (now : RunAt r k L) (i s : ℕ) (is : IsLink r i s) (w : 0 < N-in now s s - N-in now i s) where
+  accepts : eqb (delivered r k L i s (now .state) .answer .number) 0 ≡ true
+  accepts = rw (one-delivered now i s (is .0) (is .1) (omega arith) (is .2))
+
+  after : Reached r k L (delivered r k L i s (now .state) .state)
+  after = record { chassis = _; ledgers = _; matches = link-matches now i s is (omega arith) .0 }
 
   -- N after it, as the words have it
-  N-after : (j u : ℕ) → j < r → u < r → N-at r k L (delivered r k L i s st .state) j u ≡ protocol.delivered i s (g .chassis) .replica j .N u
+  N-after : (j u : ℕ) → j < r → u < r → N-at r k L (delivered r k L i s (now .state) .state) j u ≡ protocol.delivered i s (now .chassis) .replica j .N u
   N-after j u hj hu =
-      rw (one-delivered r k L st (g .chassis) (g .ledgers) (g .matches) i s (is .0) (is .1) (omega arith) (is .2))
-      (delivered-shows r k L st (g .chassis) (g .ledgers) (g .matches) i s (is .0) (is .1) (omega arith) (is .2) .shows j hj .Ns u hu)
+      rw (one-delivered now i s (is .0) (is .1) (omega arith) (is .2))
+      (delivered-shows now i s (is .0) (is .1) (omega arith) (is .2) .shows j hj .Ns u hu)
 
 module _ (r k L : ℕ) where
-  N-is : (st : State) (g : Reached r k L st) (i s : ℕ) → i < r → s < r → N-at r k L st i s ≡ g .chassis .replica i .N s
-  N-is st g i s hi hs = reached-N r k (replica-of r k L st) (g .chassis) (g .ledgers) (g .matches .cards) i s hi hs
-
   reached-orderly : Orderly (state-links r k L) r (Reached r k L)
   reached-orderly = record {
-    keeps = λ i s st is g w e. after r k L i s st is g w;
+    keeps = λ i s st is g w e. after (run-of g) i s is w;
     takes-one = λ i s st is g w e.
-        let a = N-after r k L i s st is g w s s (is .1) (is .1) in
-        let b = N-after r k L i s st is g w i s (is .0) (is .1) in
+        let a = N-after (run-of g) i s is w s s (is .1) (is .1) in
+        let b = N-after (run-of g) i s is w i s (is .0) (is .1) in
         let c = N-link i s (g .chassis) i s refl refl in
         let d = N-elsewhere i s (g .chassis) s s (λ x y. is .2 (sym x)) in
-        let x = N-is st g i s (is .0) (is .1) in
-        let y = N-is st g s s (is .1) (is .1) in
+        let x = reached-N (run-cards (run-of g)) i s (is .0) (is .1) in
+        let y = reached-N (run-cards (run-of g)) s s (is .1) (is .1) in
         omega arith;
     others-stay = λ i s st is g w e j u js far.
-        let a = N-after r k L i s st is g w u u (js .1) (js .1) in
-        let b = N-after r k L i s st is g w j u (js .0) (js .1) in
+        let a = N-after (run-of g) i s is w u u (js .1) (js .1) in
+        let b = N-after (run-of g) i s is w j u (js .0) (js .1) in
         let c = N-elsewhere i s (g .chassis) j u far in
         let d = N-elsewhere i s (g .chassis) u u (λ x y. is .2 (sym x ∙ y)) in
-        let x = N-is st g j u (js .0) (js .1) in
-        let y = N-is st g u u (js .1) (js .1) in
+        let x = reached-N (run-cards (run-of g)) j u (js .0) (js .1) in
+        let y = reached-N (run-cards (run-of g)) u u (js .1) (js .1) in
         omega arith;
-    declined-stays = λ i s st is g w e. absurd (true≢false (sym (accepts r k L i s st is g w) ∙ e));
+    declined-stays = λ i s st is g w e. absurd (true≢false (sym (accepts (run-of g) i s is w) ∙ e));
   }
 
   -- ---- deliveries as steps
 
-  link-step : (i s : ℕ) (st : State) → IsLink r i s → step-on r k L (step-of-kind deliver-kind i s) st ≡ delivered r k L i s st
-  unfolding step-on cards-right
-  link-step i s st is = rw (lt-ltb i r (is .0), lt-ltb s r (is .1), ne-eqb i s (is .2))
+  link-step : (i s : ℕ) (st : State) → IsLink r i s → 0 < N-at r k L st s s - N-at r k L st i s
+      → step-on r k L (record { kind = deliver-kind; first = i; second = s }) st ≡ delivered r k L i s st
+  unfolding action-of
+  link-step i s st is waits = performed-is r k L st (Deliver i s) (link-passes r k L st i s is (omega arith))
 
   replayed-steps : (ls : List Link) (st : State) → AllDeliver (state-links r k L) r ls st → replayed (state-links r k L) ls st ≡ state-after r k L (pump-steps ls) st
   unfolding replayed AllDeliver state-after
   replayed-steps [] st a = refl
   replayed-steps (l ∷ ls) st a =
       replayed-steps ls (delivered r k L (l .receiver) (l .sender) st .state) (a .1)
-      ∙ ap (λ z. state-after r k L (pump-steps ls) (z .state)) (sym (link-step (l .receiver) (l .sender) st (a .0 .0)))
+      ∙ ap (λ stepped. state-after r k L (pump-steps ls) (stepped .state)) (sym (link-step (l .receiver) (l .sender) st (a .0 .0) (a .0 .1)))
 
   answered : (ls : List Link) (st : State) → AllDeliver (state-links r k L) r ls st → answers-of r k L (pump-steps ls) st ≡ map (λ l. 0) ls
   unfolding AllDeliver answers-of
   answered [] st a = refl
   answered (l ∷ ls) st a =
-      let e = link-step (l .receiver) (l .sender) st (a .0 .0) in
-      ap₂ _∷_ (ap (λ z. z .answer) e ∙ eqb-true (delivered r k L (l .receiver) (l .sender) st .answer) 0 (a .0 .2))
-      (ap (λ z. answers-of r k L (pump-steps ls) (z .state)) e ∙ answered ls (delivered r k L (l .receiver) (l .sender) st .state) (a .1))
+      let e = link-step (l .receiver) (l .sender) st (a .0 .0) (a .0 .1) in
+      ap₂ _∷_ (ap (λ stepped. stepped .answer .number) e ∙ eqb-true (delivered r k L (l .receiver) (l .sender) st .answer .number) 0 (a .0 .2))
+      (ap (λ stepped. answers-of r k L (pump-steps ls) (stepped .state)) e ∙ answered ls (delivered r k L (l .receiver) (l .sender) st .state) (a .1))
 
   after-append : (ss ts : List Step) (st : State) → state-after r k L (ss ++ ts) st ≡ state-after r k L ts (state-after r k L ss st)
   unfolding state-after
@@ -106,22 +104,16 @@ module _ (r k L : ℕ) where
 
 -- ---- the checks before a call pass
 
-module _ (r k L : ℕ) (st : State) (g : Reached r k L st) where
-  sender-is : (s n : ℕ) → s < r → n < N-at r k L st s s → message-at (waiting-part (suc n) (log-of r k L st s)) .sender ≡ s
+module _ {r k L : ℕ} (now : RunAt r k L) where
+  sender-is : (s n : ℕ) → s < r → n < N-in now s s → message-at (waiting-part (suc n) (log-in now s)) .sender ≡ s
   sender-is s n hs l =
-      let h = g .matches in
-      let ch = g .chassis in
-      let all = N-is r k L st g s s hs hs ∙ made-all r k (replica-of r k L st) ch (g .ledgers) (h .cards) s in
-      let made : n < length (ch .log s) = omega arith in
-      let on = h .holds s hs in
-      let stands = stands-in-log (wire-log s (ch .log s)) (on .rest) (log-of r k L st s) (on .bytes) (h .cards .cards-show .readable s hs) n
-      (rw (length-numbered s 0 (ch .log s)) made) in
-      rw (stands .waits, wire-log-at s (ch .log s) n made) (fields-are r k (replica-of r k L st) ch (g .ledgers) (h .cards) s s hs hs n made .1)
+      let made : n < length (now .chassis .log s) = let all = own-N (run-cards now) s hs in omega arith in
+      rw (message-stands now s n hs made .waits) (fields-are (run-cards now) s s hs hs n made .1)
 
-  reached-checked : Checked r k L st
+  reached-checked : Checked r k L (now .state)
   reached-checked = record {
-    words-fit = g .matches .words-fit;
-    heads = λ i hi. let h = g .matches .cards .cards-show .heads i hi in (h .cards-are, h .counters-are, h .own-is);
+    words-fit = now .matches .words-fit;
+    heads = λ i hi. let h = now .matches .cards .cards-show .heads i hi in (h .cards-are, h .counters-are, h .own-is);
     senders = sender-is;
   }
 
@@ -135,16 +127,16 @@ module _ (r k L : ℕ) (steps : List Step) (logs : List ℕ) (z : Sizes r k) (fi
   st = state-after r k L steps start
 
   reached : (ss : List Step) → Reached r k L (state-after r k L ss start)
-  reached ss = record { chassis = _; ledgers = _; matches = run-matches r k L ss start fresh-chassis (λ q. empty-ledger) (fresh-matches r k L logs z fits) .0 }
+  reached ss = record { chassis = _; ledgers = _; matches = run-matches ss (run-at (fresh-matches r k L logs z fits)) .0 }
 
   pub run-checked : Checked r k L st
-  run-checked = reached-checked r k L st (reached steps)
+  run-checked = reached-checked (run-of (reached steps))
 
   call : CallOk (state-links r k L) r (Reached r k L) st (pump r k L b st)
   call = call-ok (state-links r k L) r (Reached r k L) (reached-orderly r k L) b st (reached steps)
 
   pub never-passes : (i s : ℕ) → pump r k L b st .passed i s ≡ false
-  never-passes = never-passed (state-links r k L) r b (Reached r k L) (reached-orderly r k L) st (reached steps) (λ i s st is g w. accepts r k L i s st is g w)
+  never-passes = never-passed (state-links r k L) r b (Reached r k L) (reached-orderly r k L) st (reached steps) (λ i s st is g w. accepts (run-of g) i s is w)
 
   pub call-is-steps : pump r k L b st .state ≡ state-after r k L (steps ++ pump-steps (pump r k L b st .made)) start
   call-is-steps =
@@ -164,5 +156,5 @@ module _ (r k L : ℕ) (steps : List Step) (logs : List ℕ) (z : Sizes r k) (fi
       (drained (state-links r k L) r b (Reached r k L) (reached-orderly r k L) st (reached steps) (λ i s is. never-passes i s) enough) in
       let ran = state-run r k L all logs z fits in
       let has-all : (i : ℕ) → i < r → (s : ℕ) → s < r → N-at r k L (state-after r k L all start) i s ≡ N-at r k L (state-after r k L all start) s s
-      = λ i hi. received-all r k _ _ _ ran i hi (λ s is. let e = none i s is in omega arith) in
-      rw call-is-steps (same-reads r k _ _ _ ran i j hi hj (λ s hs. has-all i hi s hs ∙ sym (has-all j hj s hs)) q hq)
+      = λ i hi. received-all ran i hi (λ s is. let e = none i s is in omega arith) in
+      rw call-is-steps (same-reads ran i j hi hj (λ s hs. has-all i hi s hs ∙ sym (has-all j hj s hs)) q hq)

@@ -1,52 +1,59 @@
 -- LAWS. For the code of a run: the places where the next message of each link starts, and that every step keeps them (`Reached`).
--- The code keeps, for a receiver i and a sender s, the place at 16 * i + s; at 16 * i + i stands where i's own next message goes.
+-- The code keeps, for a receiver i and a sender s, the place at `link-place` i s; at that of i and i stands where i's own next message goes.
 use Prim.Native.Nat.{ℕ, suc, _+_, _*_, _≤_, _<_}
 use mathlib.Core.Path.{_≡_, refl, sym, _∙_, subst}
-use mathlib.Core.Bool.{Bool}
 use mathlib.Core.List.{List}
 use native.Mathlib.Omega.{arith}
 use lib.ListN.{length, getD, set, take, drop, replicate, length-set, length-drop, length-replicate, getD-replicate}
 use lib.Seq.{getD-set-same, getD-set-other, set-getD}
-use Rattle.protocol.specs.Limits.{bad-counter, exhausted, short-output}
+use Rattle.protocol.specs.Limits.{most-cards, bad-counter, exhausted, short-output}
 use Rattle.protocol.specs.Cases.{by-place}
 use Rattle.protocol.specs.Ledger.{Ledger}
 use Rattle.protocol.specs.Chassis.{Chassis}
 use Rattle.wire.specs.declared.Message as wire
-use Rattle.wire.specs.Message.{called-length}
+use Rattle.wire.specs.Message.{clear-length, called-length}
 use Rattle.replica_model.specs.Calls.{SendOutcome, not-sent}
+use Rattle.replica_model.specs.FormatLaws.{on-wire-size}
 use Rattle.chassis_model.specs.Log.{waiting-part, end-of}
 use Rattle.chassis_model.specs.ListPartsLaws.{part-length}
 use Rattle.chassis_model.specs.LogLaws.{Stands}
-use Rattle.chassis_model.specs.Run.{State, Stepped, replica-of, log-of, N-at, free-from, made, delivered}
-use Rattle.chassis_model.specs.InStep.{Sizes, reached-N}
-use Rattle.chassis_model.specs.Matches.{Matches}
+use Rattle.chassis_model.specs.Run.{Making, call-of, State, Stepped, replica-of, log-of, N-at, free-from, made, delivered}
+use Rattle.chassis_model.specs.InStep.{Sizes, cards-at, reached-N}
+use Rattle.chassis_model.specs.Matches.{Matches, RunAt, run-at, run-cards}
 use Rattle.chassis_model.specs.FreshRun.{fresh-state, fresh-matches}
-use Rattle.chassis_model.specs.Sends.{call-of, next-message, message-sendable, message-readable, call-cases}
-use Rattle.chassis_model.specs.Takes.{turn}
-use Rattle.chassis_model.specs.Made.{made-of, state-made, declined-made}
-use Rattle.chassis_model.specs.Delivered.{state-delivered, turn-stands, one-delivered}
-use Rattle.chassis_model.specs.Steps.{made-matches, link-matches}
+use Rattle.chassis_model.specs.Sends.{next-message, call-cases, size-is}
+use Rattle.chassis_model.specs.MadeSteps.{made-of, state-made, declined-made}
+use Rattle.chassis_model.specs.DeliveredSteps.{state-delivered, due-stands, one-delivered}
+use Rattle.chassis_model.specs.StepLaws.{made-matches, link-matches}
 use Rattle.chassis_model.specs.Ends.{ends-within, ends-in, end-made, ends-made, end-delivered, ends-delivered}
 
 -- ---- a table of places
 
+-- one for each receiver and sender
+abbrev pub links : ℕ
+links = most-cards * most-cards
+
+-- where that of a receiver and a sender is kept
+abbrev pub link-place : ℕ → ℕ → ℕ
+link-place receiver sender = most-cards * receiver + sender
+
 pub record PlacesOf (r : ℕ) (ends : ℕ → ℕ → ℕ) (places : List ℕ) : Type 0 where
-  pub size : length places ≡ 256
-  pub place : (i s : ℕ) → i < r → s < r → getD places (16 * i + s) 0 ≡ ends i s
+  pub size : length places ≡ links
+  pub place : (i s : ℕ) → i < r → s < r → getD places (link-place i s) 0 ≡ ends i s
 
 -- one place moves
-places-move : (r : ℕ) (ends ends′ : ℕ → ℕ → ℕ) (places : List ℕ) (i s far : ℕ) → r ≤ 16 → i < r → s < r → PlacesOf r ends places → ends′ i s ≡ ends i s + far
+places-move : (r : ℕ) (ends ends′ : ℕ → ℕ → ℕ) (places : List ℕ) (i s far : ℕ) → r ≤ most-cards → i < r → s < r → PlacesOf r ends places → ends′ i s ≡ ends i s + far
     → ((j t : ℕ) → j < r → t < r → (j ≡ i → t ≡ s → ⊥) → ends′ j t ≡ ends j t)
-    → PlacesOf r ends′ (set places (16 * i + s) (ends i s + far))
+    → PlacesOf r ends′ (set places (link-place i s) (ends i s + far))
 places-move r ends ends′ places i s far few hi hs p here there = record {
-  size = length-set places (16 * i + s) _ ∙ p .size;
+  size = length-set places (link-place i s) _ ∙ p .size;
   place = λ j t hj ht.
-      by-place (16 * j + t) (16 * i + s)
+      by-place (link-place j t) (link-place i s)
       (λ e.
       let ei : j ≡ i = omega arith in
       let es : t ≡ s = omega arith in
-      rw (ei, es) (getD-set-same places (16 * i + s) _ 0 (let z = p .size in omega arith) ∙ sym here))
-      (λ d. getD-set-other places (16 * i + s) (16 * j + t) _ 0 d ∙ p .place j t hj ht ∙ sym (there j t hj ht (λ a b. d (omega arith))));
+      rw (ei, es) (getD-set-same places (link-place i s) _ 0 (let z = p .size in omega arith) ∙ sym here))
+      (λ d. getD-set-other places (link-place i s) (link-place j t) _ 0 d ∙ p .place j t hj ht ∙ sym (there j t hj ht (λ a b. d (omega arith))));
 }
 
 -- ---- for the code
@@ -64,7 +71,7 @@ pub record Reached (r k L : ℕ) (st : State) (places : List ℕ) : Type 0 where
 -- what stands at the place of a link on which a message waits
 pub record WaitsAt (L : ℕ) (log : List ℕ) (n place : ℕ) : Type 0 where
   pub inside : place ≤ L
-  pub header : 28 ≤ length (drop place log)
+  pub header : clear-length 0 ≤ length (drop place log)
   pub room : called-length (drop place log) ≤ length (drop place log)
   pub within : place + called-length (drop place log) ≤ L
   pub waits : waiting-part (suc n) log ≡ take (called-length (drop place log)) (drop place log)
@@ -83,91 +90,94 @@ waits-from L log n x long stands =
     }
 
 module _ (r k L : ℕ) (st : State) (places : List ℕ) (h : Reached r k L st places) where
+  abbrev now : RunAt r k L
+  now = run-at (h .matches)
+
   -- where i's next message goes
-  pub free-place-is : (i : ℕ) → i < r → getD places (16 * i + i) 0 ≡ free-from r k L st i
+  pub free-place-is : (i : ℕ) → i < r → getD places (link-place i i) 0 ≡ free-from r k L st i
   free-place-is i hi = h .places-are .place i i hi hi
 
-  pub place-inside : (i s : ℕ) → i < r → s < r → getD places (16 * i + s) 0 ≤ L
+  pub place-inside : (i s : ℕ) → i < r → s < r → getD places (link-place i s) 0 ≤ L
   place-inside i s hi hs =
       rw (h .places-are .place i s hi hs)
       (let a = ends-within (N-at r k L st i s) (log-of r k L st s) in let b = part-length r L s (st .logs) (h .matches .logs-fit) hs in omega arith)
 
   pub waits-at : (i s : ℕ) → i < r → s < r → N-at r k L st i s < N-at r k L st s s
-      → WaitsAt L (log-of r k L st s) (N-at r k L st i s) (getD places (16 * i + s) 0)
+      → WaitsAt L (log-of r k L st s) (N-at r k L st i s) (getD places (link-place i s) 0)
   waits-at i s hi hs waits =
       rw (h .places-are .place i s hi hs)
       (waits-from L (log-of r k L st s) (N-at r k L st i s) _ (part-length r L s (st .logs) (h .matches .logs-fit) hs)
-      (turn-stands r k L st (h .chassis) (h .ledgers) (h .matches) i s hi hs waits))
+      (due-stands now i s hi hs waits))
 
-  -- ---- a count or a clear: i's own place moves by the length that the call gives (0 where it declines)
+  -- ---- a message made: i's own place moves by the length that the call gives (0 where it declines)
 
   -- the places after the call's outcome
   module _ (i : ℕ) (hi : i < r) where
     abbrev PlacesAfter : SendOutcome → Type 0
-    PlacesAfter done = Places r k L (made-of r k L st i done .state) (set places (16 * i + i) (free-from r k L st i + done .answer .length))
+    PlacesAfter done = Places r k L (made-of r k L st i done .state) (set places (link-place i i) (free-from r k L st i + done .answer .length))
 
     places-declined : (number : ℕ) → PlacesAfter (not-sent number (replica-of r k L st i) (drop (free-from r k L st i) (log-of r k L st i)))
     places-declined number =
-        let none : set places (16 * i + i) (free-from r k L st i + 0) ≡ places
-        = rw (← (free-place-is i hi)) (let z : getD places (16 * i + i) 0 + 0 ≡ getD places (16 * i + i) 0 = omega arith in rw z (set-getD places (16 * i + i) 0)) in
-        rw none (subst (λ (z : Stepped). Places r k L (z .state) places) (sym (declined-made r k L st i number)) (h .places-are))
+        let none : set places (link-place i i) (free-from r k L st i + 0) ≡ places
+        = rw (← (free-place-is i hi)) (let z : getD places (link-place i i) 0 + 0 ≡ getD places (link-place i i) 0 = omega arith in rw z (set-getD places (link-place i i) 0)) in
+        rw none (subst (λ (stepped : Stepped). Places r k L (stepped .state) places) (sym (declined-made r k L st i number)) (h .places-are))
 
-    places-made : (counts : Bool) (q : ℕ) → PlacesAfter (call-of counts q (replica-of r k L st i) (drop (free-from r k L st i) (log-of r k L st i)))
-    places-made counts q =
-        call-cases r k (replica-of r k L st) (h .chassis) (h .ledgers) (h .matches .cards) counts i q hi PlacesAfter (drop (free-from r k L st i) (log-of r k L st i))
-        (λ a. places-declined bad-counter)
-        (λ a b. places-declined exhausted)
-        (λ a b c. places-declined short-output)
-        (λ hq few room.
-        let m = next-message r (h .chassis) counts i q in
-        let sends = message-sendable counts r k i q (h .chassis .replica i) hq in
-        let good = message-readable r k (replica-of r k L st) (h .chassis) (h .ledgers) (h .matches .cards) counts i q hi hq few in
-        places-move r (ends-in r k L st) (ends-in r k L (state-made r k L st i m)) places i i _ (h .matches .cards .sizes .few-cards) hi hi (h .places-are)
-        (end-made r k L st (h .chassis) (h .ledgers) (h .matches) i hi m sends few good room)
-        (ends-made r k L st (h .chassis) (h .ledgers) (h .matches) i hi m sends few good room))
+    places-made : (m : Making) (q : ℕ) → PlacesAfter (call-of m q (replica-of r k L st i) (drop (free-from r k L st i) (log-of r k L st i)))
+    places-made m q =
+        call-cases (run-cards now) m i q hi PlacesAfter (drop (free-from r k L st i) (log-of r k L st i))
+        (λ _. places-declined bad-counter)
+        (λ _ _. places-declined exhausted)
+        (λ _ _ _. places-declined short-output)
+        (λ hq goes fits.
+        let x = next-message r (h .chassis) m i q in
+        let room = rw (← (size-is (run-cards now) m i q hi hq (goes .few))) at fits in
+        rw (← (on-wire-size i (N-at r k L st i i + 1) x))
+        (places-move r (ends-in r k L st) (ends-in r k L (state-made now i x)) places i i _ (h .matches .cards .sizes .few-cards) hi hi (h .places-are)
+        (end-made now i hi x goes room)
+        (ends-made now i hi x goes room)))
 
-  pub made-reached : (counts : Bool) (i q : ℕ) → i < r
-      → Reached r k L (made r k L i (call-of counts q) st .state)
-      (set places (16 * i + i)
-      (getD places (16 * i + i) 0 + call-of counts q (replica-of r k L st i) (drop (getD places (16 * i + i) 0) (log-of r k L st i)) .answer .length))
+  pub made-reached : (m : Making) (i q : ℕ) → i < r
+      → Reached r k L (made r k L i (call-of m q) st .state)
+      (set places (link-place i i)
+      (getD places (link-place i i) 0 + call-of m q (replica-of r k L st i) (drop (getD places (link-place i i) 0) (log-of r k L st i)) .answer .length))
   unfolding made
-  made-reached counts i q hi = record {
+  made-reached m i q hi = record {
     chassis = _;
     ledgers = _;
-    matches = made-matches r k L st (h .chassis) (h .ledgers) (h .matches) counts i q hi .0;
-    places-are = rw (free-place-is i hi) (places-made i hi counts q);
+    matches = made-matches now m i q hi .0;
+    places-are = rw (free-place-is i hi) (places-made i hi m q);
   }
 
   -- ---- a deliver: the link's place moves by the length of the message that waits; where none waits, nothing moves
 
   pub delivered-reached : (i s : ℕ) → i < r → s < r → (i ≡ s → ⊥) → N-at r k L st i s < N-at r k L st s s
       → Reached r k L (delivered r k L i s st .state)
-      (set places (16 * i + s) (getD places (16 * i + s) 0 + called-length (drop (getD places (16 * i + s) 0) (log-of r k L st s))))
+      (set places (link-place i s) (getD places (link-place i s) 0 + called-length (drop (getD places (link-place i s) 0) (log-of r k L st s))))
   delivered-reached i s hi hs apart waits = record {
     chassis = _;
     ledgers = _;
-    matches = link-matches r k L st (h .chassis) (h .ledgers) (h .matches) i s hi hs apart .0;
+    matches = link-matches now i s (hi, hs, apart) waits .0;
     places-are =
         rw (
-          one-delivered r k L st (h .chassis) (h .ledgers) (h .matches) i s hi hs waits apart,
+          one-delivered now i s hi hs waits apart,
           h .places-are .place i s hi hs,
-          turn-stands r k L st (h .chassis) (h .ledgers) (h .matches) i s hi hs waits .called,
+          due-stands now i s hi hs waits .called,
         )
-        (places-move r (ends-in r k L st) (ends-in r k L (state-delivered r k L st i s (turn (h .chassis) i s))) places i s _ (h .matches .cards .sizes .few-cards) hi hs (h .places-are)
-        (end-delivered r k L st (h .chassis) (h .ledgers) (h .matches) i s hi hs waits apart)
-        (ends-delivered r k L st (h .chassis) (h .ledgers) (h .matches) i s hi hs waits apart));
+        (places-move r (ends-in r k L st) (ends-in r k L (state-delivered now i s)) places i s _ (h .matches .cards .sizes .few-cards) hi hs (h .places-are)
+        (end-delivered now i s hi hs waits apart)
+        (ends-delivered now i s hi hs waits apart));
   }
 
 -- ---- at the beginning
 
-fresh-places : (r n : ℕ) (ends : ℕ → ℕ → ℕ) → n ≡ 256 → r ≤ 16 → ((i s : ℕ) → i < r → s < r → ends i s ≡ 0) → PlacesOf r ends (replicate n 0)
+fresh-places : (r n : ℕ) (ends : ℕ → ℕ → ℕ) → n ≡ links → r ≤ most-cards → ((i s : ℕ) → i < r → s < r → ends i s ≡ 0) → PlacesOf r ends (replicate n 0)
 fresh-places r n ends e few none = record {
   size = length-replicate n 0 ∙ e;
-  place = λ i s hi hs. getD-replicate n (16 * i + s) 0 0 (omega arith) ∙ sym (none i s hi hs);
+  place = λ i s hi hs. getD-replicate n (link-place i s) 0 0 (omega arith) ∙ sym (none i s hi hs);
 }
 
 pub fresh-reached : (r k L : ℕ) (logs : List ℕ) → Sizes r k → length logs ≡ r * L
-    → Reached r k L (fresh-state r k L logs) (replicate 256 0)
+    → Reached r k L (fresh-state r k L logs) (replicate links 0)
 unfolding end-of
 fresh-reached r k L logs z fits =
     let h = fresh-matches r k L logs z fits in
@@ -175,5 +185,5 @@ fresh-reached r k L logs z fits =
       chassis = _;
       ledgers = _;
       matches = h;
-      places-are = fresh-places r 256 (ends-in r k L (fresh-state r k L logs)) refl (z .few-cards) (λ i s hi hs. rw (reached-N r k _ _ _ (h .cards) i s hi hs));
+      places-are = fresh-places r links (ends-in r k L (fresh-state r k L logs)) refl (z .few-cards) (λ i s hi hs. rw (reached-N (cards-at (h .cards)) i s hi hs));
     }

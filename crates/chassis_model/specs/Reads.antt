@@ -1,29 +1,30 @@
 -- LAWS. A read on a card in step with the theory is the ledger's reading: the checks pass, the words show the replica, and the theory's theorem says what it reads.
 use Prim.Native.Nat.{ℕ, _<_}
-use mathlib.Core.Path.{_≡_, sym, ap, _∙_}
+use mathlib.Core.Path.{_≡_, refl, sym, ap, _∙_}
 use mathlib.Core.List.{List}
 use borrow.Author.Tests.{lt-ltb}
 use Rattle.protocol.specs.Entry.{present}
-use Rattle.protocol.specs.Ledger.{Ledger, holds}
-use Rattle.protocol.specs.Chassis.{Replica, Chassis, read-value, read-holders}
+use Rattle.protocol.specs.Ledger.{holds}
+use Rattle.protocol.specs.Chassis.{Replica, read-value, read-holders}
 use Rattle.protocol.specs.StoreLaws.{Shows, value-shown, holders-shown}
 use Rattle.protocol.specs.Makers.{holds-is}
 use Rattle.protocol.specs.Theorem.{value-is, holders-are}
-use Rattle.replica_model.specs.Layout.{cards, counters, entry-of}
-use Rattle.replica_model.specs.LayoutLaws.{layout}
-use Rattle.replica_model.specs.Calls.{count-below, reading, read-on}
-use Rattle.replica_model.specs.ClaimTerms.{Right, RowOf, holders}
-use Rattle.replica_model.specs.RowLaws.{count-cong, right-from, row-from}
+use Rattle.protocol.specs.Functions.{count-below}
+use Rattle.protocol.specs.AcceptanceLaws.{count-cong}
+use Rattle.replica_model.specs.Layout.{cards, counters, entry-of, layout}
+use Rattle.replica_model.specs.Calls.{reading, read-on, holders}
+use Rattle.replica_model.specs.ClaimTerms.{Right, RowOf}
+use Rattle.replica_model.specs.RowLaws.{right-from, row-from}
+use Rattle.replica_model.specs.CallsLaws.{read-decided}
 use Rattle.chassis_model.specs.Ledger.{ledger-reading}
-use Rattle.chassis_model.specs.InStep.{Heads, InStep, reached-right, reached-row}
+use Rattle.chassis_model.specs.InStep.{Heads, CardsAt, reached-right, reached-row}
 
 -- where the checks pass
 read-passes : (b : List ℕ) (q : ℕ) → Right b → q < counters b → RowOf b q → read-on b q ≡ reading b q
-unfolding read-on
-read-passes b q f l w = rw (right-from b f, lt-ltb q (counters b) l, row-from b q w)
+read-passes b q f l w = let d = read-decided b q in d .accepted (d .exact 0 .1 (right-from b f, (lt-ltb q (counters b) l, (row-from b q w, refl))))
 
 -- what is read, in words that show a replica
-reading-shown : (r k i q : ℕ) (b : List ℕ) (c : Replica) → Heads r k i b → Shows r k (layout r k) b c → q < k
+reading-shown : (r k i q : ℕ) (b : List ℕ) (c : Replica) → Heads r k i b → Shows (layout r k) r k b c → q < k
     → reading b q ≡ record { number = 0; value = read-value r q c; holders = read-holders r q c; «holder_count» = count-below r (λ j. present (c .entry q j)) }
 unfolding reading
 reading-shown r k i q b c h s hq =
@@ -35,26 +36,26 @@ reading-shown r k i q b c h s hq =
       count-cong r (λ j. present (entry-of r b q j)) (λ j. present (c .entry q j)) (λ j l. ap present (s .entries q j hq l)),
     )
 
-module _ (r k : ℕ) (replicas : ℕ → List ℕ) (ch : Chassis) (ls : ℕ → Ledger) (h : InStep r k replicas ch ls) (i q : ℕ) (hi : i < r) (hq : q < k) where
+module _ {r k : ℕ} (now : CardsAt r k) (i q : ℕ) (hi : i < r) (hq : q < k) where
   -- the ledger's holding cards are the replica's
-  holding-is : (j : ℕ) → present (ch .replica i .entry q j) ≡ holds i j (ls q)
-  holding-is j = let ok = h .invariants q in sym (holds-is q (ok .notes) (ok .valid) i (ok .row i) (ch .replica i) (ls q) (ok .cards i) j)
+  holding-is : (j : ℕ) → present (now .chassis .replica i .entry q j) ≡ holds i j (now .ledgers q)
+  holding-is j = let ok = now .in-step .invariants q in sym (holds-is q (ok .notes) (ok .valid) i (ok .row i) (now .chassis .replica i) (now .ledgers q) (ok .cards i) j)
 
   -- and so are the words'
-  pub holders-counted : holders (replicas i) q ≡ count-below r (λ j. holds i j (ls q))
+  pub holders-counted : holders (now .replicas i) q ≡ count-below r (λ j. holds i j (now .ledgers q))
   holders-counted =
-      rw (h .cards-show .heads i hi .cards-are)
-      (count-cong r (λ j. present (entry-of r (replicas i) q j)) (λ j. holds i j (ls q))
-      (λ j l. ap present (h .cards-show .shows i hi .entries q j hq l) ∙ holding-is j))
+      rw (now .in-step .cards-show .heads i hi .cards-are)
+      (count-cong r (λ j. present (entry-of r (now .replicas i) q j)) (λ j. holds i j (now .ledgers q))
+      (λ j l. ap present (now .in-step .cards-show .shows i hi .entries q j hq l) ∙ holding-is j))
 
-  pub read-matches : read-on (replicas i) q ≡ ledger-reading r i (ls q)
+  pub read-matches : read-on (now .replicas i) q ≡ ledger-reading r i (now .ledgers q)
   unfolding ledger-reading
   read-matches =
-      let on = h .cards-show .heads i hi in
-      read-passes (replicas i) q (reached-right r k replicas ch ls h i hi) (rw (on .counters-are) hq) (reached-row r k replicas ch ls h i q hi hq)
-      ∙ reading-shown r k i q (replicas i) (ch .replica i) on (h .cards-show .shows i hi) hq
+      let on = now .in-step .cards-show .heads i hi in
+      read-passes (now .replicas i) q (reached-right now i hi) (rw (on .counters-are) hq) (reached-row now i q hi hq)
+      ∙ reading-shown r k i q (now .replicas i) (now .chassis .replica i) on (now .in-step .cards-show .shows i hi) hq
       ∙ rw (
-        value-is r q ch (ls q) (h .invariants q) i,
-        holders-are r q ch (ls q) (h .invariants q) i,
-        count-cong r (λ j. present (ch .replica i .entry q j)) (λ j. holds i j (ls q)) (λ j l. holding-is j),
+        value-is r q (now .chassis) (now .ledgers q) (now .in-step .invariants q) i,
+        holders-are r q (now .chassis) (now .ledgers q) (now .in-step .invariants q) i,
+        count-cong r (λ j. present (now .chassis .replica i .entry q j)) (λ j. holds i j (now .ledgers q)) (λ j l. holding-is j),
       )

@@ -1,16 +1,22 @@
--- DEFINITIONS. A run of steps over r replicas and r logs (document 01, "Chassis"): the answer of every step, and the words and log bytes it leaves.
+-- DEFINITIONS. A run of steps over r replicas and r logs (SPECIFICATION 6): the answer of every step, and the words and log bytes it leaves.
 use Prim.Native.Nat.{ℕ, zero, suc, _+_, _*_, _/_, _%_, _^_, _<_}
 use mathlib.Core.List.{List, [], _∷_, _++_}
-use mathlib.Core.Bool.{Bool, not, cond, _&&_, _||_}
+use mathlib.Core.Bool.{Bool, false, not, cond, _&&_}
 use lib.ListN.{length, take, drop}
 use lib.Dec.{ltb, eqb}
+use Rattle.protocol.specs.Checks.{Check, or-else, checked}
 use Rattle.protocol.specs.Limits.{short-output, bad-card, bad-sizes, bad-kind, nothing-waiting, log-full}
 use Rattle.wire.specs.Number.{int-at, unsigned-int}
 use Rattle.replica_model.specs.Layout.{replica-length, N-of, fresh-words}
-use Rattle.replica_model.specs.Calls.{check, sizes-in-range, SendOutcome, count-on, clear-on, take-on}
+use Rattle.replica_model.specs.Calls.{sizes-in-range, SendOutcome, count-on, clear-on, take-on}
 use Rattle.chassis_model.specs.ListParts.{part, put-part}
 use Rattle.chassis_model.specs.Log.{waiting-part, end-of}
 pub use Rattle.chassis_model.specs.declared.Step.{Step}
+pub use Rattle.chassis_model.specs.declared.Making.{Making}
+pub use Rattle.chassis_model.specs.declared.Making.the-variants.{Count, Clear}
+pub use Rattle.chassis_model.specs.declared.Action.{Action}
+pub use Rattle.chassis_model.specs.declared.Action.the-variants.{Make, Deliver, Nothing}
+pub use Rattle.chassis_model.specs.declared.StepAnswer.{StepAnswer}
 
 -- "1 count (card, counter), 2 clear (card, counter), 3 deliver (receiver, sender)"
 abbrev pub count-kind : ℕ
@@ -22,16 +28,43 @@ clear-kind = 2
 abbrev pub deliver-kind : ℕ
 deliver-kind = 3
 
+-- what a step asks for: the one place where its numbers are looked at
+unfoldable pub action-of : Step → Action
+action-of s =
+    cond (eqb (s .kind) count-kind) (Make Count (s .first) (s .second))
+    (cond (eqb (s .kind) clear-kind) (Make Clear (s .first) (s .second))
+    (cond (eqb (s .kind) deliver-kind) (Deliver (s .first) (s .second)) Nothing))
+
+-- the call that makes a message on counter q
+unfoldable pub call-of : Making → ℕ → List ℕ → List ℕ → SendOutcome
+call-of Count q b out = count-on b q out
+call-of Clear q b out = clear-on b q out
+
 -- the words of r replicas, and the bytes of r logs of L bytes each
 pub record State : Type 0 where
   pub words : List ℕ
   pub logs : List ℕ
 
+-- what a step answers, and the state that it leaves
 pub record Stepped : Type 0 where
-  pub answer : ℕ
+  pub answer : StepAnswer
   pub state : State
 
--- "All books begin fresh": those of the first n of r cards
+abbrev pub answered : ℕ → StepAnswer
+answered number = record { number = number }
+
+abbrev pub declined : State → ℕ → Stepped
+declined st number = record { answer = answered number; state = st }
+
+-- "one answer word for each step": a step's answer as words
+abbrev pub answer-words : StepAnswer → List ℕ
+answer-words a = a .number ∷ []
+
+-- how many they are
+abbrev pub answer-length : ℕ
+answer-length = 1
+
+-- "All replicas begin fresh": those of the first n of r cards
 unfoldable pub fresh-replicas : ℕ → ℕ → ℕ → List ℕ
 fresh-replicas r k zero = []
 fresh-replicas r k (suc n) = fresh-replicas r k n ++ fresh-words r k n
@@ -51,42 +84,46 @@ module _ (r k L : ℕ) where
   abbrev pub free-from : State → ℕ → ℕ
   free-from st i = end-of (N-at st i i) (log-of st i)
 
-  -- count or clear on card i, with the rest of its log as the output; where that is too short the step answers 14
+  -- a message made by card i, with the rest of its log as the call's output; where that is too short the step answers 14
   unfoldable pub made : ℕ → (List ℕ → List ℕ → SendOutcome) → State → Stepped
   made i call st =
       let at = free-from st i in
       let done = call (replica-of st i) (drop at (log-of st i)) in
       record {
-        answer = cond (eqb (done .answer .number) short-output) log-full (done .answer .number);
+        answer = answered (cond (eqb (done .answer .number) short-output) log-full (done .answer .number));
         state = record {
           words = put-part (replica-length r k) i (done .words) (st .words);
           logs = put-part L i (take at (log-of st i) ++ done .out) (st .logs);
         };
       }
 
-  -- "Deliver takes the sender's message number N + 1, N being the receiver's.
-  -- One waits exactly when the sender's own N is above the receiver's N of that sender"
+  -- "Deliver takes the sender's message number N + 1, N being the receiver's."
   unfoldable pub delivered : ℕ → ℕ → State → Stepped
   delivered i s st =
       let done = take-on (replica-of st i) (waiting-part (suc (N-at st i s)) (log-of st s)) in
-      check (ltb (N-at st i s) (N-at st s s)) (record { answer = nothing-waiting; state = st })
-      (record {
-        answer = done .answer .number;
+      record {
+        answer = answered (done .answer .number);
         state = record { words = put-part (replica-length r k) i (done .words) (st .words); logs = st .logs };
-      })
+      }
 
-  -- 7: "any card named not below r"; "the same card twice is 7"
-  unfoldable pub cards-right : Step → Bool
-  cards-right s = ltb (s .first) r && (not (eqb (s .kind) deliver-kind) || (ltb (s .second) r && not (eqb (s .first) (s .second))))
+  -- "Run steps: 12, 7 (any card named not below r), 3 (not for deliver), 4, 14, 13": the step's own checks. 3, 4 and 14 are those of the call that makes
+  -- the message. "the same card twice is 7"; "One waits exactly when the sender's own N is above the receiver's N of that sender"
+  abbrev pub step-checks : Action → State → List Check
+  step-checks (Make m i q) st = or-else (ltb i r) bad-card ∷ []
+  step-checks (Deliver i s) st = or-else (ltb i r && ltb s r && not (eqb i s)) bad-card ∷ or-else (ltb (N-at st i s) (N-at st s s)) nothing-waiting ∷ []
+  step-checks Nothing st = or-else false bad-kind ∷ []
 
-  -- "Run steps: 12, 7 (any card named not below r), 3 (not for deliver), 4, 14, 13"; 3, 4 and 14 come from count and clear
-  unfoldable pub step-on : Step → State → Stepped
-  step-on s st =
-      check (eqb (s .kind) count-kind || eqb (s .kind) clear-kind || eqb (s .kind) deliver-kind) (record { answer = bad-kind; state = st })
-      (check (cards-right s) (record { answer = bad-card; state = st })
-      (cond (eqb (s .kind) deliver-kind)
-      (delivered (s .first) (s .second) st)
-      (made (s .first) (λ b out. cond (eqb (s .kind) count-kind) (count-on b (s .second) out) (clear-on b (s .second) out)) st)))
+  -- what a step does whose own checks pass
+  abbrev pub performed : Action → State → Stepped
+  performed (Make m i q) st = made i (call-of m q) st
+  performed (Deliver i s) st = delivered i s st
+  performed Nothing st = declined st bad-kind
+
+  unfoldable pub acted : Action → State → Stepped
+  acted a st = checked (declined st) (step-checks a st) (performed a st)
+
+  abbrev pub step-on : Step → State → Stepped
+  step-on s st = acted (action-of s) st
 
   unfoldable pub state-after : List Step → State → State
   state-after [] st = st
@@ -95,9 +132,9 @@ module _ (r k L : ℕ) where
   -- "An accepted step answers 0; after a declined one the run goes on."
   unfoldable pub answers-of : List Step → State → List ℕ
   answers-of [] st = []
-  answers-of (s ∷ ss) st = step-on s st .answer ∷ answers-of ss (step-on s st .state)
+  answers-of (s ∷ ss) st = answer-words (step-on s st .answer) ++ answers-of ss (step-on s st .state)
 
-  -- "Sizes are right when r and k are in range, the words are r books long, the log is r times L bytes and there is one answer word for each step."
+  -- "Sizes are right when r and k are in range, the words are r replicas long, the log is r times L bytes and there is one answer word for each step."
   unfoldable pub sizes-right : ℕ → List ℕ → List ℕ → List ℕ → Bool
   sizes-right steps words logs answers =
       sizes-in-range r k && eqb (length words) (r * replica-length r k) && eqb (length logs) (r * L) && eqb (length answers) steps
@@ -112,7 +149,7 @@ pub record RunOutcome : Type 0 where
 unfoldable pub run-on : ℕ → ℕ → ℕ → List Step → List ℕ → List ℕ → List ℕ → RunOutcome
 run-on r k L steps words logs answers =
     let fresh : State = record { words = fresh-replicas r k r; logs = logs } in
-    check (sizes-right r k L (length steps) words logs answers) (record { number = bad-sizes; words = words; logs = logs; answers = answers })
+    checked (λ n. record { number = n; words = words; logs = logs; answers = answers }) (or-else (sizes-right r k L (length steps) words logs answers) bad-sizes ∷ [])
     (record {
       number = 0;
       words = state-after r k L steps fresh .words;
@@ -121,6 +158,10 @@ run-on r k L steps words logs answers =
     })
 
 -- ---- steps as bytes: "as bytes, three unsigned ints each"
+
+-- how many bytes a step takes
+abbrev pub step-length : ℕ
+step-length = 12
 
 unfoldable pub step-bytes : Step → List ℕ
 step-bytes s = unsigned-int (s .kind) ++ unsigned-int (s .first) ++ unsigned-int (s .second)
@@ -145,13 +186,13 @@ step-at bytes at = record { kind = int-at bytes at; first = int-at bytes (at + 4
 -- `count` steps, from byte `at` on
 unfoldable pub steps-at : ℕ → List ℕ → ℕ → List Step
 steps-at zero bytes at = []
-steps-at (suc count) bytes at = step-at bytes at ∷ steps-at count bytes (at + 12)
+steps-at (suc count) bytes at = step-at bytes at ∷ steps-at count bytes (at + step-length)
 
 abbrev pub steps-of : List ℕ → List Step
-steps-of bytes = steps-at (length bytes / 12) bytes 0
+steps-of bytes = steps-at (length bytes / step-length) bytes 0
 
 -- "byte steps not a multiple of 12 long give 11"
 unfoldable pub run-bytes-on : ℕ → ℕ → ℕ → List ℕ → List ℕ → List ℕ → List ℕ → RunOutcome
 run-bytes-on r k L bytes words logs answers =
-    check (eqb (length bytes % 12) 0) (record { number = bad-sizes; words = words; logs = logs; answers = answers })
+    checked (λ n. record { number = n; words = words; logs = logs; answers = answers }) (or-else (eqb (length bytes % step-length) 0) bad-sizes ∷ [])
     (run-on r k L (steps-of bytes) words logs answers)

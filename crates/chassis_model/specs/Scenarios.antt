@@ -1,5 +1,5 @@
--- CLAIMS. Document 01's starred orders ("Orders from the bench") as one list under one theorem, computed on the run's definition. Every figure of an order is
--- looked for in one run of its steps, and was worked out by hand from the document's rules. With a few more orders, each of the document's wrong turns fails.
+-- CLAIMS. The scenarios of SPECIFICATION 10.1 that are to be proved as one list under one theorem, computed on the run's definition. Every figure of an order is
+-- looked for in one run of its steps, and was worked out by hand from its rules. With a few more orders, each of its wrong turns fails.
 use Prim.Native.Nat.{ℕ, _+_, _*_}
 use mathlib.Core.Path.{_≡_, refl}
 use mathlib.Core.List.{List, [], _∷_, _++_}
@@ -13,19 +13,22 @@ use Rattle.protocol.specs.Names.{has, insert, join, names-after, tally, any, la
 use Rattle.protocol.specs.Ledger.{applied, sent, made, next-item, rest-items, handed, count-item, holds, clear-names, after-accepted, after-step, after-steps, ledger-value, ledger-holders}
 use Rattle.protocol.specs.Chassis.{count-message, present-entries, clear-message, read-value, read-holders}
 use Rattle.protocol.specs.StoreLaws.{cleared-words, taken-words, shown}
+use Rattle.protocol.specs.Functions.{all-below, count-below}
+use Rattle.protocol.specs.Acceptance.{entry-well-formed, card-well-formed, all-entries, cards-known, increment-implausible, entry-plausible, plausible, tables-well-formed}
 use Rattle.wire.specs.Number.{number-at, bytes-of}
 use Rattle.wire.specs.Message as form
 use Rattle.wire.specs.Message.{header-bytes, increment-bytes, entry-bytes, entries-bytes, clear-bytes, message-bytes, header-in-range, increment-in-range, clear-in-range, entry-in-range, entries-in-range, unused, in-range, increment-message, entries-at, called-length, message-at, reads, front-length}
 use Rattle.replica_model.specs.Layout.{replica-length, C-of, N-of, entry-of, fresh-words}
 use Rattle.replica_model.specs.declared.Reading.{Reading}
 use Rattle.replica_model.specs.Calls as calls
-use Rattle.replica_model.specs.Calls.{sizes-in-range, right, all-below, count-below, entry-well-formed, card-well-formed, row-well-formed, reading, read-on, sending, count-on, clear-on, content, all-entries, cards-known, increment-implausible, entry-plausible, plausible, taking, take-on}
+use Rattle.replica_model.specs.Calls.{sizes-in-range, right, row-well-formed, reading, read-on, count-on, clear-on, take-on, replica-fits, send-with, words-after, take-with}
+use Rattle.replica_model.specs.Format.{content}
 use Rattle.chassis_model.specs.declared.Step.{Step}
 use Rattle.chassis_model.specs.ListParts.{part, put-part}
 use Rattle.chassis_model.specs.Log.{waiting-part, end-of}
 use Rattle.chassis_model.specs.Run as run
-use Rattle.chassis_model.specs.Run.{State, replica-of, free-from, delivered, cards-right, step-on, state-after, answers-of, fresh-replicas, sizes-right, run-on}
-use Rattle.chassis_model.specs.Ledger.{ledger-of, ledger-reading}
+use Rattle.chassis_model.specs.Run.{action-of, call-of, State, replica-of, free-from, delivered, acted, state-after, answers-of, fresh-replicas, sizes-right, run-on}
+use Rattle.chassis_model.specs.Ledger.{ledger-action, ledger-of, ledger-reading}
 
 -- What a card has after the steps on a chassis of so many cards and counters: of the counter its entry for the origin card, C and N of that origin, and what it
 -- reads (the value, the holder set as a number and how many cards hold); and how many bytes of its log its own messages take.
@@ -135,7 +138,7 @@ scenarios =
     ∷ record { cards = 2; counters = 2; steps = step 1 0 0 ∷ step 1 0 0 ∷ step 1 0 1 ∷ []; card = 0; counter = 1; origin = 0; entry = entry 3 2 3; C = 3; N = 3; value = 1; holders = 1; holding = 1; logged = a-count + a-count + a-count }
     -- "(1,0,0) (2,0,0) (1,0,0): (2,1,2), value 1."
     ∷ record { cards = 2; counters = 1; steps = step 1 0 0 ∷ step 2 0 0 ∷ step 1 0 0 ∷ []; card = 0; counter = 0; origin = 0; entry = entry 2 1 2; C = 2; N = 3; value = 1; holders = 1; holding = 1; logged = a-count + a-clear-of 1 + a-count }
-    -- "Clear on a fresh book: 28 bytes, N 1, C 0."
+    -- "Clear on a fresh replica: 28 bytes, N 1, C 0."
     ∷ record { cards = 2; counters = 1; steps = step 2 0 0 ∷ []; card = 0; counter = 0; origin = 0; entry = entry 0 0 0; C = 0; N = 1; value = 0; holders = 0; holding = 0; logged = 28 }
     -- "Wrong turns: .. dropping an entry as soon as p = n". Not starred: the entry stays past a clear, past the first of two increments that it cancels, and goes
     -- with the second.
@@ -145,5 +148,5 @@ scenarios =
     ∷ []
 
 pub scenarios-hold : all-good scenarios ≡ true
-unfolding all-good holds-good scenarios listing overtaking not-yet sum-of put sum bits incremented cleared has insert join names-after tally any latest beyond applied sent made next-item rest-items handed count-item holds clear-names after-accepted after-step after-steps ledger-value ledger-holders count-message present-entries clear-message read-value read-holders cleared-words taken-words shown number-at bytes-of header-bytes increment-bytes entry-bytes entries-bytes clear-bytes message-bytes header-in-range increment-in-range clear-in-range entry-in-range entries-in-range unused in-range increment-message entries-at called-length message-at reads front-length form.clear-message fresh-words sizes-in-range right all-below count-below entry-well-formed card-well-formed row-well-formed reading read-on calls.sent sending count-on clear-on content all-entries cards-known increment-implausible entry-plausible plausible taking take-on part put-part waiting-part end-of run.made delivered cards-right step-on state-after answers-of fresh-replicas sizes-right run-on ledger-of ledger-reading
+unfolding all-good holds-good scenarios listing overtaking not-yet sum-of put sum bits incremented cleared has insert join names-after tally any latest beyond applied sent made next-item rest-items handed count-item holds clear-names after-accepted after-step after-steps ledger-value ledger-holders count-message present-entries clear-message read-value read-holders cleared-words taken-words shown number-at bytes-of header-bytes increment-bytes entry-bytes entries-bytes clear-bytes message-bytes header-in-range increment-in-range clear-in-range entry-in-range entries-in-range unused in-range increment-message entries-at called-length message-at reads front-length form.clear-message fresh-words sizes-in-range right replica-fits all-below count-below entry-well-formed card-well-formed row-well-formed tables-well-formed reading read-on send-with words-after count-on clear-on content all-entries cards-known increment-implausible entry-plausible plausible take-with part put-part waiting-part end-of action-of call-of run.made delivered acted state-after answers-of fresh-replicas sizes-right run-on ledger-action ledger-of ledger-reading
 scenarios-hold = refl

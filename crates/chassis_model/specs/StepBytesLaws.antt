@@ -8,18 +8,18 @@ use native.Mathlib.Omega.{arith}
 use lib.ListN.{length, take, drop, length-append}
 use lib.Seq.{take-all}
 use Rattle.wire.specs.Number.{number-at, bytes-of}
-use Rattle.wire.specs.StoredLists.{parts-join}
+use Rattle.protocol.specs.StoredLists.{parts-join}
 use Rattle.wire.specs.NumberLaws.{Bytes, number-at-below, length-bytes-of, number-at-right, number-at-bytes-of, bytes-of-number-at}
-use Rattle.chassis_model.specs.Run.{Step, run-on, step-bytes, steps-bytes, StepFits, AllFit, step-at, steps-at, steps-of, run-bytes-on}
+use Rattle.chassis_model.specs.Run.{Step, run-on, step-bytes, steps-bytes, StepFits, AllFit, step-at, steps-at, steps-of, run-bytes-on, step-length}
 use Rattle.chassis_model.specs.RunLaws.{whole-steps}
 
 -- ---- lengths
 
-step-bytes-length : (s : Step) → length (step-bytes s) ≡ 12
+step-bytes-length : (s : Step) → length (step-bytes s) ≡ step-length
 unfolding step-bytes
 step-bytes-length s = simp (length-append, length-bytes-of)
 
-steps-bytes-length : (ss : List Step) → length (steps-bytes ss) ≡ 12 * length ss
+steps-bytes-length : (ss : List Step) → length (steps-bytes ss) ≡ step-length * length ss
 unfolding steps-bytes
 steps-bytes-length [] = refl
 steps-bytes-length (s ∷ ss) = length-append (step-bytes s) (steps-bytes ss) ∙ omega (arith, step-bytes-length s, steps-bytes-length ss)
@@ -40,13 +40,13 @@ steps-at-right : (n : ℕ) (xs ys : List ℕ) (at : ℕ) → steps-at n (xs ++ y
 unfolding steps-at
 steps-at-right zero xs ys at = refl
 steps-at-right (suc n) xs ys at =
-    rw (step-at-right xs ys at, add-assoc (length xs) at 12) (ap (λ (ss : List Step). step-at ys at ∷ ss) (steps-at-right n xs ys (at + 12)))
+    rw (step-at-right xs ys at, add-assoc (length xs) at step-length) (ap (λ (ss : List Step). step-at ys at ∷ ss) (steps-at-right n xs ys (at + step-length)))
 
 steps-read : (ss : List Step) → AllFit ss → steps-at (length ss) (steps-bytes ss) 0 ≡ ss
 unfolding steps-at steps-bytes
 steps-read [] fit = refl
 steps-read (s ∷ ss) fit =
-    let behind : steps-at (length ss) (step-bytes s ++ steps-bytes ss) 12 ≡ ss =
+    let behind : steps-at (length ss) (step-bytes s ++ steps-bytes ss) step-length ≡ ss =
     rw (step-bytes-length s) at (steps-at-right (length ss) (step-bytes s) (steps-bytes ss) 0) ∙ steps-read ss (fit .1) in
     ap₂ (λ (t : Step) (ts : List Step). t ∷ ts) (step-read s (steps-bytes ss) (fit .0)) behind
 
@@ -54,26 +54,26 @@ pub same-run : (r k L : ℕ) (steps : List Step) (words logs answers : List ℕ)
     → run-bytes-on r k L (steps-bytes steps) words logs answers ≡ run-on r k L steps words logs answers
 same-run r k L steps words logs answers fit =
     let long = steps-bytes-length steps in
-    let whole : length (steps-bytes steps) % 12 ≡ 0 = rw long (mul-mod-right 12 (length steps)) in
-    let count : length (steps-bytes steps) / 12 ≡ length steps = rw long (mul-div-cancel-left (length steps) (omega arith)) in
+    let whole : length (steps-bytes steps) % step-length ≡ 0 = rw long (mul-mod-right step-length (length steps)) in
+    let count : length (steps-bytes steps) / step-length ≡ length steps = rw long (mul-div-cancel-left (length steps) (omega arith)) in
     let back : steps-of (steps-bytes steps) ≡ steps = rw count (steps-read steps fit) in
     whole-steps r k L (steps-bytes steps) words logs answers whole ∙ rw back
 
 -- ---- bytes read and written
 
-step-written : (bytes : List ℕ) (at : ℕ) → Bytes bytes → at + 12 ≤ length bytes → step-bytes (step-at bytes at) ≡ take 12 (drop at bytes)
+step-written : (bytes : List ℕ) (at : ℕ) → Bytes bytes → at + step-length ≤ length bytes → step-bytes (step-at bytes at) ≡ take step-length (drop at bytes)
 unfolding step-bytes
 step-written bytes at small room =
     rw (bytes-of-number-at 4 bytes at small (omega arith), bytes-of-number-at 4 bytes (at + 4) small (omega arith), bytes-of-number-at 4 bytes (at + 8) small (omega arith))
     (rw (parts-join bytes at 4 4, parts-join bytes at 8 4))
 
-steps-written : (n : ℕ) (bytes : List ℕ) (at : ℕ) → Bytes bytes → at + 12 * n ≤ length bytes
-    → steps-bytes (steps-at n bytes at) ≡ take (12 * n) (drop at bytes)
+steps-written : (n : ℕ) (bytes : List ℕ) (at : ℕ) → Bytes bytes → at + step-length * n ≤ length bytes
+    → steps-bytes (steps-at n bytes at) ≡ take (step-length * n) (drop at bytes)
 unfolding steps-at steps-bytes
 steps-written zero bytes at small room = refl
 steps-written (suc n) bytes at small room =
-    let more : 12 * suc n ≡ 12 + 12 * n = omega arith in
-    rw (step-written bytes at small (omega arith), steps-written n bytes (at + 12) small (omega arith), more) (parts-join bytes at 12 (12 * n))
+    let more : step-length * suc n ≡ step-length + step-length * n = omega arith in
+    rw (step-written bytes at small (omega arith), steps-written n bytes (at + step-length) small (omega arith), more) (parts-join bytes at step-length (step-length * n))
 
 steps-fit : (n : ℕ) (bytes : List ℕ) (at : ℕ) → Bytes bytes → AllFit (steps-at n bytes at)
 unfolding steps-at
@@ -84,12 +84,12 @@ steps-fit (suc n) bytes at small = (
     first = number-at-below 4 bytes (at + 4) small;
     second = number-at-below 4 bytes (at + 8) small;
   },
-  steps-fit n bytes (at + 12) small,
+  steps-fit n bytes (at + step-length) small,
 )
 
-pub steps-of-bytes : (bytes : List ℕ) → Bytes bytes → length bytes % 12 ≡ 0 → AllFit (steps-of bytes) × (steps-bytes (steps-of bytes) ≡ bytes)
+pub steps-of-bytes : (bytes : List ℕ) → Bytes bytes → length bytes % step-length ≡ 0 → AllFit (steps-of bytes) × (steps-bytes (steps-of bytes) ≡ bytes)
 steps-of-bytes bytes small whole =
-    let all : 12 * (length bytes / 12) ≡ length bytes = omega arith in (
-      steps-fit (length bytes / 12) bytes 0 small,
-      steps-written (length bytes / 12) bytes 0 small (omega arith) ∙ take-all (12 * (length bytes / 12)) bytes (omega arith),
+    let all : step-length * (length bytes / step-length) ≡ length bytes = omega arith in (
+      steps-fit (length bytes / step-length) bytes 0 small,
+      steps-written (length bytes / step-length) bytes 0 small (omega arith) ∙ take-all (step-length * (length bytes / step-length)) bytes (omega arith),
     )

@@ -5,21 +5,21 @@ use mathlib.Core.Bool.{Bool, true}
 use mathlib.Core.List.{List, [], _∷_, _++_, map}
 use lib.ListN.{length, getD}
 use Rattle.protocol.specs.Ledger as ledger
-use Rattle.protocol.specs.Ledger.{Ledger, empty-ledger, after-steps}
+use Rattle.protocol.specs.Ledger.{Ledger, after-steps}
 use Rattle.protocol.specs.Chassis as protocol
-use Rattle.protocol.specs.Chassis.{Chassis, fresh-chassis, Offer, run}
+use Rattle.protocol.specs.Chassis.{Offer, run}
 use Rattle.protocol.specs.Runs.{step-of}
 use Rattle.replica_model.specs.Layout.{replica-length, N-of}
 use Rattle.replica_model.specs.Calls.{read-on}
 use Rattle.replica_model.specs.RowLaws.{sizes}
 use Rattle.replica_model.specs.RowLaws.{tests}
 use Rattle.chassis_model.specs.ListParts.{part}
-use Rattle.chassis_model.specs.Run.{Step, State, replica-of, step-on, state-after, answers-of, sizes-right, run-on, steps-of, run-bytes-on}
-use Rattle.chassis_model.specs.Ledger.{ledger-step, was-accepted, ledger-of, ledger-reading}
+use Rattle.chassis_model.specs.Run.{Step, State, StepAnswer, replica-of, step-on, state-after, answers-of, sizes-right, run-on, steps-of, run-bytes-on}
+use Rattle.chassis_model.specs.Ledger.{ledger-step, accepted-of, ledger-of, ledger-reading}
 use Rattle.chassis_model.specs.Answers.{fresh-state, due-answer, run-answer}
-use Rattle.chassis_model.specs.Matches.{Sizes, Matches}
+use Rattle.chassis_model.specs.Matches.{Sizes, Matches, RunAt, run-at}
 use Rattle.chassis_model.specs.FreshRun.{fresh-matches}
-use Rattle.chassis_model.specs.Steps.{step-matches}
+use Rattle.chassis_model.specs.StepLaws.{step-matches}
 use Rattle.chassis_model.specs.Offers.{offers-of, TheoryRun}
 use Rattle.chassis_model.specs.TheoryReads.{reading-is}
 use Rattle.chassis_model.specs.Agreement.{same-reads}
@@ -28,7 +28,7 @@ use Rattle.chassis_model.specs.AnswerLaws.{step-answer, answer-at, due-i
 
 -- the ledgers after a list of steps
 abbrev pub ledgers-after : ℕ → ℕ → ℕ → List Step → State → (ℕ → Ledger) → ℕ → Ledger
-ledgers-after r k L ss st ls q = after-steps r q (map ledger-step ss) (map was-accepted (answers-of r k L ss st)) (ls q)
+ledgers-after r k L ss st ls q = after-steps r q (map ledger-step ss) (accepted-of (answers-of r k L ss st)) (ls q)
 
 -- the list as the theory has it, from a state on
 abbrev pub run-offers : ℕ → ℕ → ℕ → List Step → State → List Offer
@@ -39,14 +39,14 @@ unfolding answers-of offers-of
 offers-steps r k L [] st = refl
 offers-steps r k L (s ∷ ss) st = ap {B = List ledger.Step} (λ xs. ledger-step s ∷ xs) (offers-steps r k L ss (step-on r k L s st .state))
 
-pub run-matches : (r k L : ℕ) (ss : List Step) (st : State) (ch : Chassis) (ls : ℕ → Ledger) → Matches r k L st ch ls
-    → Matches r k L (state-after r k L ss st) (run r (run-offers r k L ss st) ch) (ledgers-after r k L ss st ls)
-    × (protocol.answers r (run-offers r k L ss st) ch ≡ map was-accepted (answers-of r k L ss st))
+pub run-matches : {r k L : ℕ} (ss : List Step) (now : RunAt r k L)
+    → Matches r k L (state-after r k L ss (now .state)) (run r (run-offers r k L ss (now .state)) (now .chassis)) (ledgers-after r k L ss (now .state) (now .ledgers))
+    × (protocol.answers r (run-offers r k L ss (now .state)) (now .chassis) ≡ accepted-of (answers-of r k L ss (now .state)))
 unfolding state-after answers-of offers-of after-steps run protocol.answers
-run-matches r k L [] st ch ls h = (h, refl)
-run-matches r k L (s ∷ ss) st ch ls h =
-    let here = step-matches r k L st ch ls h s in
-    let rest = run-matches r k L ss _ _ _ (here .0) in
+run-matches [] now = (now .matches, refl)
+run-matches (s ∷ ss) now =
+    let here = step-matches now s in
+    let rest = run-matches ss (run-at (here .0)) in
     (rest .0, ap₂ (λ (a : Bool) (fs : List Bool). a ∷ fs) (here .1) (rest .1))
 
 -- what right sizes say
@@ -59,7 +59,7 @@ pub state-run : (r k L : ℕ) (steps : List Step) (logs : List ℕ) → Sizes r 
     → let start = fresh-state r k L logs in
     TheoryRun r k (map ledger-step steps) (answers-of r k L steps start) (replica-of r k L (state-after r k L steps start))
 state-run r k L steps logs z fits =
-    let ran = run-matches r k L steps (fresh-state r k L logs) fresh-chassis (λ q. empty-ledger) (fresh-matches r k L logs z fits) in
+    let ran = run-matches steps (run-at (fresh-matches r k L logs z fits)) in
     record { cards = ran .0 .cards; steps-are = offers-steps r k L steps (fresh-state r k L logs); answers-are = ran .1 }
 
 -- and so is a run whose sizes are right
@@ -83,7 +83,7 @@ pub ledger-theorem : (r k L : ℕ) (steps : List Step) (words logs answers : Lis
     → read-on (part (replica-length r k) (run-on r k L steps words logs answers .words) i) q
     ≡ ledger-reading r i (ledger-of r q steps (run-on r k L steps words logs answers .answers))
 unfolding ledger-of
-ledger-theorem r k L steps words logs answers right = reading-is r k _ _ _ (theory-run r k L steps words logs answers right)
+ledger-theorem r k L steps words logs answers right = reading-is (theory-run r k L steps words logs answers right)
 
 pub ledger-theorem-over-records : (r k L : ℕ) (steps : List Step) (words logs answers : List ℕ)
     → let after = run-on r k L steps words logs answers in
@@ -106,7 +106,7 @@ pub same-messages-same-reads : (r k L : ℕ) (steps : List Step) (words logs ans
     → let card = part (replica-length r k) (run-on r k L steps words logs answers .words) in
     (i j : ℕ) → i < r → j < r → ((s : ℕ) → s < r → N-of r (card i) s ≡ N-of r (card j) s)
     → (q : ℕ) → q < k → read-on (card i) q ≡ read-on (card j) q
-same-messages-same-reads r k L steps words logs answers right = same-reads r k _ _ _ (theory-run r k L steps words logs answers right)
+same-messages-same-reads r k L steps words logs answers right = same-reads (theory-run r k L steps words logs answers right)
 
 -- ---- answers
 
@@ -114,12 +114,12 @@ module _ (r k L : ℕ) (before : List Step) (s : Step) (after : List Step) (word
     (right : sizes-right r k L (length (before ++ s ∷ after)) words logs answers ≡ true) where
   pub step-answers : (any : ℕ)
       → getD (run-on r k L (before ++ s ∷ after) words logs answers .answers) (length before) 0
-      ≡ due-answer r k L any s (state-after r k L before (fresh-state r k L logs)) (λ q. ledger-of r q before (answers-of r k L before (fresh-state r k L logs)))
+      ≡ due-answer r k L any s (state-after r k L before (fresh-state r k L logs)) (λ q. ledger-of r q before (answers-of r k L before (fresh-state r k L logs))) .number
   unfolding run-on ledger-of
   step-answers any =
       let z = right-sizes r k L (length (before ++ s ∷ after)) words logs answers right in
-      let ran = run-matches r k L before (fresh-state r k L logs) fresh-chassis (λ q. empty-ledger) (fresh-matches r k L logs (z .0) (z .1)) in
-      rw right (answer-at r k L before s after (fresh-state r k L logs) ∙ step-answer r k L _ _ _ (ran .0) any s)
+      let ran = run-matches before (run-at (fresh-matches r k L logs (z .0) (z .1))) in
+      rw right (answer-at r k L before s after (fresh-state r k L logs) ∙ ap (λ (a : StepAnswer). a .number) (step-answer (run-at (ran .0)) any s))
 
   pub run-answers : run-answer (getD (run-on r k L (before ++ s ∷ after) words logs answers .answers) (length before) 0) ≡ true
   run-answers = rw (step-answers 0) (due-is-answer r k L 0 s _ _)

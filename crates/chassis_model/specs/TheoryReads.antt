@@ -20,19 +20,20 @@ use Rattle.protocol.specs.AloneLedgers.{SameSets, own-same}
 use Rattle.replica_model.specs.Layout.{C-of, entry-of}
 use Rattle.replica_model.specs.declared.Reading.{Reading}
 use Rattle.replica_model.specs.Calls.{read-on}
-use Rattle.chassis_model.specs.Ledger.{was-accepted, ledger-reading}
+use Rattle.chassis_model.specs.Ledger.{accepted-of, ledger-reading}
 use Rattle.chassis_model.specs.Algorithm1Of.{algorithm-1-of}
 use Rattle.chassis_model.specs.HistoryOf.{history-of}
+use Rattle.chassis_model.specs.InStep.{cards-at}
 use Rattle.chassis_model.specs.Reads.{read-matches}
 use Rattle.chassis_model.specs.Offers.{offers-of, ledgers-told, TheoryRun, told}
 
-module _ (r k : ℕ) (steps : List Step) (numbers : List ℕ) (replicas : ℕ → List ℕ) (t : TheoryRun r k steps numbers replicas) where
+module _ {r k : ℕ} {steps : List Step} {numbers : List ℕ} {replicas : ℕ → List ℕ} (t : TheoryRun r k steps numbers replicas) where
   abbrev offers : List Offer
   offers = offers-of steps numbers
 
   -- a read is the ledger's, and so the theory's
   pub reading-is : (i q : ℕ) → i < r → q < k → read-on (replicas i) q ≡ ledger-reading r i (ledgers-told r steps numbers q)
-  reading-is i q hi hq = read-matches r k replicas _ _ (t .cards) i q hi hq
+  reading-is i q hi hq = read-matches (cards-at (t .cards)) i q hi hq
 
   pub value-read : (i q : ℕ) → i < r → q < k → read-on (replicas i) q .value ≡ read-value r q (after-run r offers .replica i)
   unfolding ledger-reading
@@ -44,7 +45,7 @@ module _ (r k : ℕ) (steps : List Step) (numbers : List ℕ) (replicas : ℕ �
   instances-are : (i : ℕ) → algorithm-1-of r steps numbers .replica i ≡ instances-of (after-run r offers .replica i)
   unfolding algorithm-1-of
   instances-are i =
-      ap (λ (x : System). x .replica i) (told r k steps numbers replicas t (λ ss fs. paper.after-steps r ss fs initial)) ∙ after-same r offers .replicas i
+      ap (λ (x : System). x .replica i) (told t (λ ss fs. paper.after-steps r ss fs initial)) ∙ after-same r offers .replicas i
 
   pub C-is : (i j : ℕ) → i < r → j < r → C-of (replicas i) j ≡ algorithm-1-of r steps numbers .replica i .C j
   C-is i j hi hj = rw (ap (λ (x : Instances). x .C j) (instances-are i)) (t .cards .cards-show .shows i hi .Cs j hj)
@@ -59,7 +60,7 @@ module _ (r k : ℕ) (steps : List Step) (numbers : List ℕ) (replicas : ℕ �
 
   history-is : history-of steps numbers ≡ history-after r offers
   unfolding history-of
-  history-is = told r k steps numbers replicas t (λ ss fs. recorded ss fs empty-history)
+  history-is = told t (λ ss fs. recorded ss fs empty-history)
 
   pub caught-up-value : (i q : ℕ) → i < r → q < k → caught-up i (history-of steps numbers) ≡ true
       → read-on (replicas i) q .value ≡ plain-value q i (history-of steps numbers)
@@ -71,11 +72,11 @@ pub same-reading : (r i : ℕ) (l l′ : Ledger) → SameSets l l′ → ledger-
 unfolding ledger-reading ledger-value ledger-holders holds
 same-reading r i l l′ h = simp (h .received i, h .cancelled i)
 
-pub same-own-reads {ℓ ℓ′} : {A : Type ℓ} {B : Type ℓ′} (step : A → Step) (step′ : B → Step) (r k k′ q : ℕ) (xs : List A) (ys : List B) (ns ns′ : List ℕ)
-    (replicas replicas′ : ℕ → List ℕ) → TheoryRun r k (map step xs) ns replicas → TheoryRun r k′ (map step′ ys) ns′ replicas′
-    → map step (own-steps step q xs (map was-accepted ns) no-turns) ≡ map step′ (own-steps step′ q ys (map was-accepted ns′) no-turns)
+pub same-own-reads {ℓ ℓ′} : {A : Type ℓ} {B : Type ℓ′} {r k k′ : ℕ} {ns ns′ : List ℕ} {replicas replicas′ : ℕ → List ℕ} (q : ℕ)
+    (step : A → Step) (xs : List A) (step′ : B → Step) (ys : List B) → TheoryRun r k (map step xs) ns replicas → TheoryRun r k′ (map step′ ys) ns′ replicas′
+    → map step (own-steps step q xs (accepted-of ns) no-turns) ≡ map step′ (own-steps step′ q ys (accepted-of ns′) no-turns)
     → (i : ℕ) → i < r → q < k → q < k′ → read-on (replicas i) q ≡ read-on (replicas′ i) q
-same-own-reads step step′ r k k′ q xs ys ns ns′ replicas replicas′ t t′ e i hi hq hq′ =
-    reading-is r k _ _ _ t i q hi hq
-    ∙ sym (same-reading r i _ _ (own-same step step′ r q xs ys (map was-accepted ns) (map was-accepted ns′) e))
-    ∙ sym (reading-is r k′ _ _ _ t′ i q hi hq′)
+same-own-reads {r = r} {ns = ns} {ns′ = ns′} q step xs step′ ys t t′ e i hi hq hq′ =
+    reading-is t i q hi hq
+    ∙ sym (same-reading r i _ _ (own-same step step′ r q xs ys (accepted-of ns) (accepted-of ns′) e))
+    ∙ sym (reading-is t′ i q hi hq′)

@@ -1,5 +1,5 @@
 // What a chassis of several cards joined by logs is and what a run of steps does. The crate holds definitions and claims (specs/) and no
-// function; the step and the span stand here so that the definitions' records and the code's structs are one type.
+// function; the types stand here so that the definitions' and the code's are the same.
 
 // One step of a run: 1 count (card, counter), 2 clear (card, counter), 3 deliver (receiver, sender).
 #[repr(C)]
@@ -7,6 +7,24 @@ pub struct Step {
     pub kind: u32,
     pub first: u32,
     pub second: u32,
+}
+
+// What a card makes in a step: a count or a clear.
+pub enum Making {
+    Count,
+    Clear,
+}
+
+// What a step asks for: that a card makes a message on a counter, that a receiver is handed a sender's message, or nothing that there is.
+pub enum Action {
+    Make(Making, u32, u32),
+    Deliver(u32, u32),
+    Nothing,
+}
+
+// What a step answers.
+pub struct StepAnswer {
+    pub number: u64,
 }
 
 // A part of a list of bytes, by its place: where it starts, and how long it is.

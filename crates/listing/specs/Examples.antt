@@ -1,24 +1,24 @@
--- CLAIMS. Document 01's listing, computed on the definition, and inputs that are refused.
-use Prim.Native.Nat.{ℕ, _+_}
+-- CLAIMS. The listing of SPECIFICATION 9, computed on the definition, and inputs that are refused.
+use Prim.Native.Nat.{ℕ}
 use mathlib.Core.Path.{_≡_, refl}
 use mathlib.Core.List.{List, [], _∷_, _++_}
 use Rattle.protocol.specs.Tables.{put, sum, bits}
 use Rattle.protocol.specs.Entry.{incremented, cleared}
 use Rattle.protocol.specs.Chassis.{count-message, present-entries, clear-message, read-value, read-holders}
 use Rattle.protocol.specs.StoreLaws.{cleared-words, taken-words, shown}
+use Rattle.protocol.specs.Functions.{all-below, count-below}
+use Rattle.protocol.specs.Acceptance.{entry-well-formed, card-well-formed, all-entries, cards-known, increment-implausible, entry-plausible, plausible, tables-well-formed}
 use Rattle.wire.specs.Number.{number-at, bytes-of}
 use Rattle.wire.specs.Message as form
 use Rattle.wire.specs.Message.{header-bytes, increment-bytes, entry-bytes, entries-bytes, clear-bytes, message-bytes, header-in-range, increment-in-range, clear-in-range, entry-in-range, entries-in-range, unused, in-range, increment-message, entries-at, called-length, message-at, reads, front-length}
 use Rattle.replica_model.specs.Layout.{fresh-words}
-use Rattle.replica_model.specs.Calls.{sizes-in-range, right, all-below, count-below, entry-well-formed, card-well-formed, row-well-formed, reading, read-on, sent, sending, count-on, clear-on, content, all-entries, cards-known, increment-implausible, entry-plausible, plausible, taking, take-on}
+use Rattle.replica_model.specs.Calls.{sizes-in-range, right, row-well-formed, reading, read-on, count-on, clear-on, take-on, replica-fits, send-with, words-after, take-with}
+use Rattle.replica_model.specs.Format.{content}
 use Rattle.chassis_model.specs.ListParts.{part, put-part}
 use Rattle.chassis_model.specs.Log.{waiting-part, end-of}
-use Rattle.chassis_model.specs.Run.{made, delivered, cards-right, step-on, state-after, answers-of, fresh-replicas, sizes-right, run-on, steps-at, run-bytes-on}
-use Rattle.listing.specs.Listing.{header, refused-11, digits, decimal, line, card-lines, lines, words-after, input-right, listing-of}
-
-pub decimals : (decimal 0 ≡ 48 ∷ []) × (decimal 10 ≡ 49 ∷ 48 ∷ []) × (decimal 281474976710655 ≡ 50 ∷ 56 ∷ 49 ∷ 52 ∷ 55 ∷ 52 ∷ 57 ∷ 55 ∷ 54 ∷ 55 ∷ 49 ∷ 48 ∷ 54 ∷ 53 ∷ 53 ∷ [])
-unfolding digits
-decimals = (refl, refl, refl)
+use Rattle.chassis_model.specs.Run.{made, delivered, action-of, call-of, acted, state-after, answers-of, fresh-replicas, sizes-right, run-on, steps-at, run-bytes-on}
+use Rattle.text.specs.Decimal.{digits}
+use Rattle.listing.specs.Listing.{header, refused-11, line, card-lines, lines, run-words, input-right, listing-of}
 
 -- "0,0,2,1,0"
 pub first-line : line 0 0 (record { number = 0; value = 2; holders = 1; «holder_count» = 1 }) ≡ 48 ∷ 44 ∷ 48 ∷ 44 ∷ 50 ∷ 44 ∷ 49 ∷ 44 ∷ 48 ∷ 13 ∷ 10 ∷ []
@@ -52,5 +52,5 @@ document-input =
 -- "0,0,2,1,0" and "1,0,0,0,1"
 pub document-listing : listing-of document-input
     ≡ header ++ 48 ∷ 44 ∷ 48 ∷ 44 ∷ 50 ∷ 44 ∷ 49 ∷ 44 ∷ 48 ∷ 13 ∷ 10 ∷ 49 ∷ 44 ∷ 48 ∷ 44 ∷ 48 ∷ 44 ∷ 48 ∷ 44 ∷ 49 ∷ 13 ∷ 10 ∷ []
-unfolding document-input put sum bits incremented cleared count-message present-entries clear-message read-value read-holders cleared-words taken-words shown number-at bytes-of header-bytes increment-bytes entry-bytes entries-bytes clear-bytes message-bytes header-in-range increment-in-range clear-in-range entry-in-range entries-in-range unused in-range increment-message entries-at called-length message-at reads front-length form.clear-message fresh-words sizes-in-range right all-below count-below entry-well-formed card-well-formed row-well-formed reading read-on sent sending count-on clear-on content all-entries cards-known increment-implausible entry-plausible plausible taking take-on part put-part waiting-part end-of made delivered cards-right step-on state-after answers-of fresh-replicas sizes-right run-on steps-at run-bytes-on digits line card-lines lines words-after input-right listing-of
+unfolding document-input put sum bits incremented cleared count-message present-entries clear-message read-value read-holders cleared-words taken-words shown number-at bytes-of header-bytes increment-bytes entry-bytes entries-bytes clear-bytes message-bytes header-in-range increment-in-range clear-in-range entry-in-range entries-in-range unused in-range increment-message entries-at called-length message-at reads front-length form.clear-message fresh-words sizes-in-range right replica-fits all-below count-below entry-well-formed card-well-formed row-well-formed tables-well-formed reading read-on send-with words-after count-on clear-on content all-entries cards-known increment-implausible entry-plausible plausible take-with part put-part waiting-part end-of made delivered action-of call-of acted state-after answers-of fresh-replicas sizes-right run-on steps-at run-bytes-on digits line card-lines lines run-words input-right listing-of
 document-listing = refl

@@ -1,6 +1,5 @@
 pub mod Listing
-pub mod Text
-pub mod TextLaws
+pub mod Sizes
 pub mod ListingLaws
 pub mod Claims
 pub mod Examples

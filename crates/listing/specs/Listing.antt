@@ -1,15 +1,18 @@
--- DEFINITIONS. The listing (document 01, "Listing program"): the bytes that standard input gives on standard output.
+-- DEFINITIONS. The listing (SPECIFICATION 9): the bytes that standard input gives on standard output.
 use Prim.Native.Nat.{ℕ, zero, suc, _+_, _*_, _/_, _%_}
 use mathlib.Core.List.{List, [], _∷_, _++_}
 use mathlib.Core.Bool.{Bool, cond, _&&_}
 use lib.ListN.{length, drop, replicate}
-use lib.Dec.{leb, ltb, eqb}
+use lib.Dec.{leb, eqb}
 use Rattle.wire.specs.Number.{int-at}
 use Rattle.replica_model.specs.Layout.{replica-length}
-use Rattle.replica_model.specs.Calls.{check, read-on}
+use Rattle.replica_model.specs.Calls.{is-quiet, read-on}
 use Rattle.replica_model.specs.declared.Reading.{Reading}
 use Rattle.chassis_model.specs.ListParts.{part}
-use Rattle.chassis_model.specs.Run.{run-bytes-on}
+use Rattle.chassis_model.specs.Run.{step-length, run-bytes-on}
+use Rattle.text.specs.Decimal.{decimal}
+
+-- ---- the text
 
 -- "RFC 4180 with CRLF"
 abbrev pub comma : List ℕ
@@ -31,18 +34,9 @@ header =
 abbrev pub refused-11 : List ℕ
 refused-11 = 114 ∷ 101 ∷ 102 ∷ 117 ∷ 115 ∷ 101 ∷ 100 ∷ 44 ∷ 49 ∷ 49 ∷ 13 ∷ 10 ∷ []
 
--- the decimal digits of a number of at most so many digits, no zero in front
-unfoldable pub digits : ℕ → ℕ → List ℕ
-digits zero x = []
-digits (suc most) x = cond (ltb x 10) ((48 + x) ∷ []) (digits most (x / 10) ++ (48 + x % 10) ∷ [])
-
--- a word has at most 20 digits
-abbrev pub decimal : ℕ → List ℕ
-decimal x = digits 20 x
-
--- "A counter is quiet on a card when its value is 0"; "quiet 1 or 0"
+-- "quiet 1 or 0"
 abbrev pub quiet : Reading → ℕ
-quiet a = cond (eqb (a .value) 0) 1 0
+quiet a = cond (is-quiet a) 1 0
 
 -- "decimal numbers, the holder set as a number, quiet 1 or 0"
 unfoldable pub line : ℕ → ℕ → Reading → List ℕ
@@ -58,6 +52,8 @@ unfoldable pub lines : ℕ → ℕ → List ℕ → ℕ → List ℕ
 lines r k words zero = []
 lines r k words (suc n) = lines r k words n ++ card-lines n (part (replica-length r k) words n) k
 
+-- ---- the input
+
 -- "r <= 4, k <= 8, at most 256 steps, L = 4,096"
 abbrev pub most-listed-cards : ℕ
 most-listed-cards = 4
@@ -71,25 +67,41 @@ most-listed-steps = 256
 abbrev pub log-bytes : ℕ
 log-bytes = 4096
 
--- the bytes of the largest right input, r and k and 256 steps, and one more, by which a longer one is known
+-- how many bytes r and k take
+abbrev pub sizes-length : ℕ
+sizes-length = 8
+
+-- "Standard input holds r, k (unsigned ints) and steps"
+abbrev pub given-cards : List ℕ → ℕ
+given-cards input = int-at input 0
+
+abbrev pub given-counters : List ℕ → ℕ
+given-counters input = int-at input 4
+
+abbrev pub given-steps : List ℕ → List ℕ
+given-steps input = drop sizes-length input
+
+-- the bytes of the largest right input, and one more, by which a longer one is known
 abbrev pub input-bytes : ℕ
-input-bytes = 8 + 12 * most-listed-steps + 1
+input-bytes = sizes-length + step-length * most-listed-steps + 1
 
--- the run's words: every replica begins fresh, so what they held before does not matter
-unfoldable pub words-after : ℕ → ℕ → List ℕ → List ℕ
-words-after r k steps =
-    run-bytes-on r k log-bytes steps (replicate (r * replica-length r k) 0) (replicate (r * log-bytes) 0) (replicate (length steps / 12) 0) .words
-
--- "Standard input holds r, k (unsigned ints) and steps"; "Wrong sizes, or fewer than 8 bytes"
+-- "Wrong sizes, or fewer than 8 bytes"
 unfoldable pub input-right : List ℕ → Bool
 input-right input =
-    leb 8 (length input)
-    && leb 1 (int-at input 0) && leb (int-at input 0) most-listed-cards
-    && leb 1 (int-at input 4) && leb (int-at input 4) most-listed-counters
-    && eqb (length (drop 8 input) % 12) 0 && leb (length (drop 8 input)) (12 * most-listed-steps)
+    leb sizes-length (length input)
+    && leb 1 (given-cards input) && leb (given-cards input) most-listed-cards
+    && leb 1 (given-counters input) && leb (given-counters input) most-listed-counters
+    && eqb (length (given-steps input) % step-length) 0 && leb (length (given-steps input)) (step-length * most-listed-steps)
+
+-- ---- the listing
+
+-- the run's words: every replica begins fresh, so what they held before does not matter
+unfoldable pub run-words : ℕ → ℕ → List ℕ → List ℕ
+run-words r k steps =
+    run-bytes-on r k log-bytes steps (replicate (r * replica-length r k) 0) (replicate (r * log-bytes) 0) (replicate (length steps / step-length) 0) .words
+
+abbrev pub run-listing : ℕ → ℕ → List ℕ → List ℕ
+run-listing r k steps = header ++ lines r k (run-words r k steps) r
 
 unfoldable pub listing-of : List ℕ → List ℕ
-listing-of input =
-    let r = int-at input 0 in
-    let k = int-at input 4 in
-    check (input-right input) refused-11 (header ++ lines r k (words-after r k (drop 8 input)) r)
+listing-of input = cond (input-right input) (run-listing (given-cards input) (given-counters input) (given-steps input)) refused-11

@@ -1,25 +1,29 @@
 // The lines of the listing: one for each card and counter, rising.
-use crate::text;
 use replica::read;
+use replica::words;
 use replica_model::Reading;
 ghost use mathlib.Core.Path.{_≡_};
-ghost use mathlib.Core.Bool.{cond};
 ghost use Prim.Native.Nat.{_+_, _*_, _≤_};
-ghost use lib.Dec.{eqb};
 ghost use lib.ListN.{length};
 ghost use Rattle.replica_model.specs.Layout.{replica-length};
 ghost use Rattle.replica_model.specs.Calls.{read-on};
 ghost use Rattle.chassis_model.specs.ListParts.{part};
-ghost use Rattle.listing.specs.Listing.{line, card-lines, lines};
-ghost use Rattle.listing.specs.Text.{line-bytes, card-bytes, Put};
+ghost use Rattle.text.specs.Put.{Put};
+ghost use Rattle.listing.specs.Listing.{quiet, line, card-lines, lines, most-listed-cards, most-listed-counters};
+ghost use Rattle.listing.specs.Sizes.{line-bytes, card-bytes};
+
+const COMMA: [u8; 1] = *b",";
 
 const LINE_END: [u8; 2] = *b"\r\n";
 
-// "A counter is quiet on a card when its value is 0"
-fn quiet_of(value: u64) -> u64
-    ensures { λ r. ⌜ r ≡ cond (eqb value 0) 1 0 ⌝ }
+// The most bytes of a line: five numbers, four commas and the line end.
+pub(crate) const LINE_BYTES: usize = 5 * text::MOST_DIGITS + 4 + 2;
+
+// "quiet 1 or 0"
+fn quiet_of(a: Reading) -> u64
+    ensures { λ r. ⌜ r ≡ quiet a ⌝ }
 {
-    (value == 0) as u64
+    read::is_quiet(a) as u64
 }
 
 // "decimal numbers, the holder set as a number, quiet 1 or 0"
@@ -27,12 +31,11 @@ fn put_line(card: u64, counter: u64, a: Reading, out: &mut [u8], at: usize) -> u
     requires { ⌜ at + line-bytes ≤ length (now out) ⌝ }
     ensures { λ r. ⌜ Put line-bytes (now (out .entry)) at (line card counter a) (now (out .exit)) r ⌝ }
 {
-    let counter_at = text::put_field(card, out, at);
-    let value_at = text::put_field(counter, out, counter_at);
-    let holders_at = text::put_field(a.value, out, value_at);
-    let quiet_at = text::put_field(a.holders, out, holders_at);
-    let end = text::put_decimal(quiet_of(a.value), out, quiet_at);
-    text::put_text(&LINE_END, out, end)
+    let counter_at = text::put_field(card, &COMMA, out, at);
+    let value_at = text::put_field(counter, &COMMA, out, counter_at);
+    let holders_at = text::put_field(a.value, &COMMA, out, value_at);
+    let quiet_at = text::put_field(a.holders, &COMMA, out, holders_at);
+    text::put_field(quiet_of(a), &LINE_END, out, quiet_at)
 }
 
 // The line of one counter, as the card's replica reads it.
@@ -58,7 +61,7 @@ fn put_card(card: usize, counters: usize, b: &[u64], out: &mut [u8], at: usize) 
     end
 }
 
-// "Each card's book is its own stretch of the lent words"
+// "Each card's replica is its own stretch of the caller's words"
 fn replica_of(words: &[u64], size: usize, card: usize) -> &[u64]
     requires { ⌜ card * size + size ≤ length (now words) ⌝ }
     ensures { λ r. ⌜ now r ≡ part size (now (words .entry)) card ⌝ }
@@ -68,7 +71,7 @@ fn replica_of(words: &[u64], size: usize, card: usize) -> &[u64]
     &words[from..to]
 }
 
-// The lines of one of several cards.
+// The lines of one card, of the words of several: `size` is the length of a replica.
 fn put_replica(
     card: usize,
     counters: usize,
@@ -77,25 +80,25 @@ fn put_replica(
     out: &mut [u8],
     at: usize,
 ) -> usize
-    requires { ⌜ (counters ≤ 8) × (card * size + size ≤ length (now words)) × (at + card-bytes ≤ length (now out)) ⌝ }
+    requires { ⌜ (counters ≤ most-listed-counters) × (card * size + size ≤ length (now words)) × (at + card-bytes ≤ length (now out)) ⌝ }
     ensures { λ r. ⌜ Put card-bytes (now (out .entry)) at (card-lines card (part size (now (words .entry)) card) counters) (now (out .exit)) r ⌝ }
 {
     let b = replica_of(words, size, card);
     put_card(card, counters, b, out, at)
 }
 
-// All lines: `size` is the length of a replica.
-pub fn put_lines(
+// The lines of all cards.
+pub(crate) fn put_lines(
     cards: usize,
     counters: usize,
     words: &[u64],
-    size: usize,
     out: &mut [u8],
     at: usize,
 ) -> usize
-    requires { ⌜ (counters ≤ 8) × (size ≡ replica-length cards counters) × (cards * size ≤ length (now words)) × (at + card-bytes * cards ≤ length (now out)) ⌝ }
+    requires { ⌜ (cards ≤ most-listed-cards) × (counters ≤ most-listed-counters) × (cards * replica-length cards counters ≤ length (now words)) × (at + card-bytes * cards ≤ length (now out)) ⌝ }
     ensures { λ r. ⌜ Put (card-bytes * cards) (now (out .entry)) at (lines cards counters (now (words .entry)) cards) (now (out .exit)) r ⌝ }
 {
+    let size = words::replica_words(cards, counters);
     let mut card: usize = 0;
     let mut end = at;
     while card < cards {

@@ -1,17 +1,17 @@
 // The listing of a run whose sizes and steps are given as bytes.
 use crate::lines;
-use crate::text;
 use chassis::run;
+use chassis::steps::STEP_BYTES;
 use replica::words;
 use wire::number;
 ghost use mathlib.Core.Path.{_≡_};
-ghost use mathlib.Core.List.{_++_};
 ghost use Prim.Native.Nat.{ℕ, _*_, _≤_};
 ghost use lib.ListN.{length, take, replicate};
 ghost use Rattle.wire.specs.Message.{over};
 ghost use Rattle.replica_model.specs.Layout.{replica-length};
-ghost use Rattle.listing.specs.Listing.{header, lines, words-after, input-right, listing-of};
-ghost use Rattle.listing.specs.Text.{listing-bytes, Put, Sized};
+ghost use Rattle.text.specs.Put.{Put};
+ghost use Rattle.listing.specs.Listing.{input-right, run-words, run-listing, listing-of};
+ghost use Rattle.listing.specs.Sizes.{listing-bytes, Listable};
 
 // "r <= 4, k <= 8, at most 256 steps, L = 4,096"
 const MOST_LISTED_CARDS: usize = 4;
@@ -22,24 +22,27 @@ const MOST_LISTED_STEPS: usize = 256;
 
 const LOG_BYTES: usize = 4096;
 
-// r and k, four bytes each, stand before the steps of twelve bytes each.
+// r and k, an unsigned int each, stand before the steps.
 const COUNTERS_AT: usize = 4;
 
 const STEPS_AT: usize = 8;
 
-const STEP_BYTES: usize = 12;
-
-// Four replicas of four cards and eight counters, of 107 words each.
-const MOST_WORDS: usize = 428;
+// The words of the largest run. A replica's length is that of `words::replica_words`, which the value of a constant cannot call.
+const MOST_WORDS: usize = MOST_LISTED_CARDS
+    * (words::HEAD
+        + 2 * MOST_LISTED_CARDS
+        + words::ENTRY * (MOST_LISTED_CARDS * MOST_LISTED_COUNTERS));
 
 // The largest input that is right, and one byte more, by which a larger one is known: these decide the listing (claim `first-bytes-decide`).
 pub const INPUT_BYTES: usize = STEPS_AT + STEP_BYTES * MOST_LISTED_STEPS + 1;
 
-// Enough for every listing: the header's 34 bytes and 32 lines of at most 106 (five numbers of at most twenty digits, four commas, the line end)
-// are 3,426.
-pub const LISTING_BYTES: usize = 4096;
+const HEADER_BYTES: usize = 34;
 
-const HEADER: [u8; 34] = *b"card,counter,value,holders,quiet\r\n";
+const HEADER: [u8; HEADER_BYTES] = *b"card,counter,value,holders,quiet\r\n";
+
+// The most bytes of a listing: the header, and a line for each card and counter.
+pub const LISTING_BYTES: usize = HEADER_BYTES
+    + lines::LINE_BYTES * (MOST_LISTED_CARDS * MOST_LISTED_COUNTERS);
 
 const REFUSED: [u8; 12] = *b"refused,11\r\n";
 
@@ -61,9 +64,9 @@ fn is_right(input: &[u8]) -> bool
 }
 
 // The run's words. Its logs and answers are not listed.
-fn run_steps(cards: usize, counters: usize, size: usize, steps: &[u8], words: &mut [u64])
-    requires { ⌜ Sized cards counters (now steps) × (size ≡ replica-length cards counters) × (now words ≡ replicate {A = ℕ} (cards * size) 0) ⌝ }
-    ensures { λ _. ⌜ now (words .exit) ≡ words-after cards counters (now (steps .entry)) ⌝ }
+fn run_steps(cards: usize, counters: usize, steps: &[u8], words: &mut [u64])
+    requires { ⌜ Listable cards counters (now steps) × (now words ≡ replicate {A = ℕ} (cards * replica-length cards counters) 0) ⌝ }
+    ensures { λ _. ⌜ now (words .exit) ≡ run-words cards counters (now (steps .entry)) ⌝ }
 {
     let mut logs: [u8; MOST_LISTED_CARDS * LOG_BYTES] = [0; MOST_LISTED_CARDS * LOG_BYTES];
     let mut answers: [u64; MOST_LISTED_STEPS] = [0; MOST_LISTED_STEPS];
@@ -81,36 +84,28 @@ fn run_steps(cards: usize, counters: usize, size: usize, steps: &[u8], words: &m
 }
 
 // "opens with the line card,counter,value,holders,quiet. Then one line for each card and counter"
-fn put_run(
-    cards: usize,
-    counters: usize,
-    size: usize,
-    steps: &[u8],
-    words: &mut [u64],
-    out: &mut [u8],
-) -> usize
-    requires { ⌜ Sized cards counters (now steps) × (size ≡ replica-length cards counters) × (now words ≡ replicate {A = ℕ} (cards * size) 0) × (listing-bytes ≤ length (now out)) ⌝ }
-    ensures { λ r. ⌜ Put listing-bytes (now (out .entry)) 0 (header ++ lines cards counters (words-after cards counters (now (steps .entry))) cards) (now (out .exit)) r ⌝ }
+fn put_run(cards: usize, counters: usize, steps: &[u8], words: &mut [u64], out: &mut [u8]) -> usize
+    requires { ⌜ Listable cards counters (now steps) × (now words ≡ replicate {A = ℕ} (cards * replica-length cards counters) 0) × (listing-bytes ≤ length (now out)) ⌝ }
+    ensures { λ r. ⌜ Put listing-bytes (now (out .entry)) 0 (run-listing cards counters (now (steps .entry))) (now (out .exit)) r ⌝ }
 {
-    run_steps(cards, counters, size, steps, words);
+    run_steps(cards, counters, steps, words);
     let lines_at = text::put_text(&HEADER, out, 0);
-    lines::put_lines(cards, counters, words, size, out, lines_at)
+    lines::put_lines(cards, counters, words, out, lines_at)
 }
 
 // Lends the run its words: the first r replicas' of those that the largest run takes.
 fn put_listing(cards: usize, counters: usize, steps: &[u8], out: &mut [u8]) -> usize
-    requires { ⌜ Sized cards counters (now steps) × (listing-bytes ≤ length (now out)) ⌝ }
-    ensures { λ r. ⌜ Put listing-bytes (now (out .entry)) 0 (header ++ lines cards counters (words-after cards counters (now (steps .entry))) cards) (now (out .exit)) r ⌝ }
+    requires { ⌜ Listable cards counters (now steps) × (listing-bytes ≤ length (now out)) ⌝ }
+    ensures { λ r. ⌜ Put listing-bytes (now (out .entry)) 0 (run-listing cards counters (now (steps .entry))) (now (out .exit)) r ⌝ }
 {
     let mut words: [u64; MOST_WORDS] = [0; MOST_WORDS];
-    let size = words::replica_words(cards, counters);
-    let end = cards * size;
-    put_run(cards, counters, size, steps, &mut words[..end], out)
+    let end = cards * words::replica_words(cards, counters);
+    put_run(cards, counters, steps, &mut words[..end], out)
 }
 
-// Writes the listing of the run that the input gives, or the refusal, to the front of `out`, and answers its length. Every input has an answer;
-// bytes of `out` past the length stay. Ruled out: a listing with the holders in the value's place, one that
-// calls a counter with a value quiet (must-fail/quiet_inverted).
+// Writes the listing of the run that the input gives, or the refusal, to the front of `out`, and returns its length. Every input has an answer;
+// bytes of `out` past the length stay. Ruled out: a listing with the holders in the value's place (must-fail/value_and_holders_exchanged), one that calls
+// a counter with a value quiet (must-fail/quiet_inverted).
 pub fn list(input: &[u8], out: &mut [u8; LISTING_BYTES]) -> usize
     ensures listed { λ r. ⌜ (now (out .exit) ≡ over (listing-of (now (input .entry))) (now (out .entry))) × (r ≡ length (listing-of (now (input .entry)))) ⌝ }
     ensures counted { λ r. ⌜ (r ≤ length (now (out .exit))) × (r ≡ length (take r (now (out .exit)))) ⌝ }

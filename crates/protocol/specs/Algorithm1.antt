@@ -1,8 +1,8 @@
--- DEFINITIONS. Algorithm 1 of the 2022 paper (source document 003), line by line; each line's number stands before its text.
--- Document 01's wording of the same steps is in `Entry` and `Chassis`; that the two say the same is `Algorithm1Laws`.
+-- DEFINITIONS. Algorithm 1 of the 2022 paper, line by line; each line's number stands before its text.
+-- The specification's wording of the same steps is in `Entry` and `Chassis`; that the two say the same is `Algorithm1Laws`.
 --
 -- One reading: as the listing is printed, the `else` of line 35 stands below the `if` of line 33. It belongs to line 32 (an entry that is
--- there takes the max), and lines 37 and 38 are run for every (j, p, c). So does document 01 have it.
+-- there takes the max), and lines 37 and 38 are run for every (j, p, c). So does the specification have it.
 use Prim.Native.Nat.{ℕ, zero, suc, _+_, _-_, _<_, max}
 use mathlib.Core.Bool.{Bool, true, false, not, cond, _&&_, _||_}
 use mathlib.Core.List.{List, [], _∷_, _++_}
@@ -135,7 +135,7 @@ unfoldable pub effector : Update → State → State
 effector (inc j p start) st = inc-effector j p start st
 effector (reset R) st = reset-effector R st
 
--- ---- document 01's replica and messages, read as the paper's
+-- ---- the specification's replica and messages, read as the paper's
 
 -- "An absent entry is (0,0,0)": absent is unmapped.
 abbrev pub slot-of : Entry → Slot

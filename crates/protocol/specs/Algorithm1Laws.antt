@@ -1,4 +1,4 @@
--- LAWS. Algorithm 1 as the paper has it (`Algorithm1`) and as document 01 words it (`Entry`, `Chassis`) say the same: entry by entry, and
+-- LAWS. Algorithm 1 as the paper has it (`Algorithm1`) and as the specification words it (`Entry`, `Chassis`) say the same: entry by entry, and
 -- then for the whole map at each card.
 use Prim.Native.Nat.{ℕ, zero, suc, _+_, _-_, _≤_, _<_, max}
 use mathlib.Core.Path.{_≡_, refl, sym, ap, _∙_}

@@ -60,7 +60,7 @@ pub single-steps : (r i : ℕ) (os : List Offer)
     × ((q j : ℕ) → after-run r (in-single-steps r os) .replica i .entry q j ≡ after-run r os .replica i .entry q j)
 single-steps r i os = (λ j. single-C r i j os, λ q j. single-entry r i q j os)
 
--- ---- "C counts units, so a sound row asks C <= MAX, not C <= N; 4 also covers C + w above MAX at the sender."
+-- ---- "C counts units, so a well-formed row asks C <= MAX, not C <= N; 4 also covers C + w above MAX at the sender."
 
 -- Refusal 2 does not occur in a run whose accepted steps are none that 4 covers: every row of every card is well-formed.
 pub run-well-formed : (r q i most : ℕ) (os : List Offer) → StepsWithin most r os fresh-chassis → WellFormedRow most i q (after-run r os .replica i)

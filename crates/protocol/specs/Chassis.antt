@@ -1,4 +1,4 @@
--- DEFINITIONS. One card's replica (document 01's "book"), its messages, and the chassis of replicas joined by logs: "Count, clear, take, read" and
+-- DEFINITIONS. One card's replica (SPECIFICATION 3), its messages, and the chassis of replicas joined by logs: "Count, clear, take, read" and
 -- "Chassis", as tables over card and counter numbers. No offset, no byte and no bound is fixed here: q is any number, w any amount.
 -- Refusals for a reason that the theory need not know (3, 4, 14: the counter's range, MAX, the log's length) are steps that are not `willing`;
 -- what the theory needs of an accepted step is `enabled`. So what is proved holds for every way of declining.
@@ -22,7 +22,7 @@ pub record Replica : Type 0 where
   pub C : ℕ → ℕ
   pub N : ℕ → ℕ
 
--- "A fresh book has zeros after its first three words"
+-- "A fresh replica has zeros after its first three words"
 abbrev pub fresh-replica : Replica
 fresh-replica = record { entry = λ q j. absent; C = λ j. 0; N = λ j. 0 }
 
@@ -89,11 +89,11 @@ pub record Chassis : Type 0 where
   pub replica : ℕ → Replica
   pub log : ℕ → List Message
 
--- "All books begin fresh."
+-- "All replicas begin fresh."
 abbrev pub fresh-chassis : Chassis
 fresh-chassis = record { replica = λ i. fresh-replica; log = λ i. [] }
 
--- "A message made is appended to its card's L bytes, right after that card's earlier ones"; "Apply it to the own book in the same call."
+-- "A message made is appended to its card's L bytes, right after that card's earlier ones"; "Apply it to the own replica in the same call."
 unfoldable pub issued : ℕ → Message → Chassis → Chassis
 issued i m st = record { replica = put i (taken i m (st .replica i)) (st .replica); log = put i (st .log i ++ m ∷ []) (st .log) }
 

@@ -29,7 +29,7 @@ abbrev pub AllPass : List Check → Type 0
 AllPass [] = Unit {0}
 AllPass (c ∷ cs) = (c .passed ≡ true) × AllPass cs
 
--- "for each number, the call gives it if and only if its cause holds and no earlier one does"; 0 stands for no cause
+-- "For each number, the call gives it if and only if its cause holds and no earlier one does"; 0 stands for no cause
 abbrev pub Gives : List Check → ℕ → Type 0
 Gives [] n = n ≡ 0
 Gives (c ∷ cs) n = cond (eqb n (c .number)) (c .passed ≡ false) ((c .passed ≡ true) × Gives cs n)

@@ -1,6 +1,6 @@
 -- LAWS. What every call made of checks has (`Checks`), by induction over the list, for every call and every list at once: it gives the number of the first
 -- check that fails; refused, it is that refusal and nothing else; it is accepted exactly where no check fails; and the number of the first check that
--- fails, worked out by itself, tells which of these it is.
+-- fails, worked out by itself, tells which of these it is. What holds of 0 and of every number of the list holds of that number.
 use Prim.Native.Nat.{ℕ}
 use mathlib.Core.Path.{_≡_, refl, sym, ap, _∙_}
 use mathlib.Core.Logic.{_↔_, _≢_}
@@ -9,7 +9,7 @@ use mathlib.Core.Bool.{Bool, true, false, not, cond, _&&_, and-eq-true-iff, fals
 use native.Mathlib.Omega.{arith}
 use lib.Dec.{eqb, ltb}
 use borrow.Author.Tests.{eqb-true, eqb-false, ltb-true, ne-eqb, not-true}
-use Rattle.protocol.specs.Cases.{by-test}
+use Rattle.protocol.specs.Cases.{by-place, by-test, and-left, and-right}
 use Rattle.protocol.specs.Checks.{Check, checked, first-failing, AllPass, Gives, Decided}
 
 -- the numbers are not 0 and differ: a test that computes for each call's list
@@ -79,6 +79,11 @@ module _ {A : Type 0} (refusal : ℕ → A) (result : A) where
   all-accepts [] h = refl
   all-accepts (c ∷ cs) h = rw (h .0) (all-accepts cs (h .1))
 
+  -- the first that fails
+  pub refused-at : (cs : List Check) (c : Check) (ds : List Check) → AllPass cs → c .passed ≡ false → checked refusal (cs ++ c ∷ ds) result ≡ refusal (c .number)
+  refused-at [] c ds h f = rw f
+  refused-at (d ∷ cs) c ds h f = rw (h .0) (refused-at cs c ds (h .1) f)
+
 -- 0: every check passes
 pub first-passes : (cs : List Check) → distinct cs ≡ true → first-failing cs ≡ 0 → AllPass cs
 first-passes [] d h = tt
@@ -114,3 +119,33 @@ passes-gives (c ∷ cs) d h =
     let some = apart-some (c .number) cs ((simp and-eq-true-iff at d) .0) in
     let other : eqb 0 (c .number) ≡ false = ne-eqb 0 (c .number) (λ e. some (sym e)) in
     rw other (h .0, passes-gives cs ((simp and-eq-true-iff at d) .1) (h .1))
+
+-- ---- by cases
+
+module _ {A : Type 0} (refusal : ℕ → A) (cs : List Check) (result : A) (d : distinct cs ≡ true) where
+  -- it is a refusal, or every check passes and it is its result
+  pub checked-cases : (P : A → Type 0) → ((n : ℕ) → n ≢ 0 → P (refusal n)) → (AllPass cs → P result) → P (checked refusal cs result)
+  checked-cases P refuses accepts =
+      by-place (first-failing cs) 0
+      (λ e. let all = first-passes cs d e in rw (all-accepts refusal result cs all) (accepts all))
+      (λ some. rw (← (first-refuses refusal result cs some)) (refuses (first-failing cs) some))
+
+-- the first check that fails is the one whose number the list gives
+pub first-is : (cs : List Check) → distinct cs ≡ true → (n : ℕ) → Gives cs n → first-failing cs ≡ n
+first-is cs d n gives = decided (λ n. n) (λ n. n) (λ n. refl) 0 refl cs d .exact n .1 gives
+
+-- so the call is that refusal, whatever its result is
+pub refusal-is : {A : Type 0} (refusal : ℕ → A) (cs : List Check) (result : A) → distinct cs ≡ true → (n : ℕ) → n ≢ 0 → Gives cs n
+    → checked refusal cs result ≡ refusal n
+refusal-is refusal cs result d n some gives =
+    let e = first-is cs d n gives in sym (first-refuses refusal result cs (λ z. some (sym e ∙ z))) ∙ ap refusal e
+
+-- of every number of the list
+abbrev every : (ℕ → Bool) → List Check → Bool
+every f [] = true
+every f (c ∷ cs) = f (c .number) && every f cs
+
+pub first-among : (f : ℕ → Bool) → f 0 ≡ true → (cs : List Check) → every f cs ≡ true → f (first-failing cs) ≡ true
+first-among f zero [] all = zero
+first-among f zero (c ∷ cs) all =
+    by-test (c .passed) (λ t. rw t (first-among f zero cs (and-right (f (c .number)) (every f cs) all))) (λ t. rw t (and-left (f (c .number)) (every f cs) all))

@@ -47,10 +47,10 @@ run-plausible = refusals.run-plausible
 
 -- Refusal 2 does not occur in a run by amounts of 1: while no card has made more than `most` messages, every row of every card is well-formed.
 pub run-well-formed : (r q i most : ℕ) (os : List Offer) → AmountsOne os → ((n : ℕ) → n < r → after-run r os .replica n .N n ≤ most)
-    → WellFormedRow most i q (after-run r os .replica i)
+    → (cards : ℕ) → let b = after-run r os .replica i in WellFormedRow most cards i (b .C) (b .N) (b .entry q)
 run-well-formed = refusals.run-well-formed
 
--- ALGORITHM 1, in the paper's form and in document 01's. `state-of q b` is a replica as counter q's instance: an absent entry is an unmapped key.
+-- ALGORITHM 1, in the paper's form and in the specification's. `state-of q b` is a replica as counter q's instance: an absent entry is an unmapped key.
 
 -- Lines 9-10: the paper's value is what read gives.
 pub algorithm-1-value : (r q : ℕ) (b : Replica) → value r (state-of q b) ≡ read-value r q b

@@ -1,4 +1,4 @@
--- CLAIMS. What a clear takes, on two of document 01's lists, computed: the count that its card had not seen stays, and a count that comes after its clear does not.
+-- CLAIMS. What a clear takes, on two of the specification's scenarios, computed: the count that its card had not seen stays, and a count that comes after its clear does not.
 use Prim.Native.Nat.{ℕ, zero, suc, _<_}
 use mathlib.Core.Path.{_≡_, refl, sym, _∙_}
 use mathlib.Core.Bool.{true, false, false≢true}

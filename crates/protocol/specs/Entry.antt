@@ -1,6 +1,6 @@
--- DEFINITIONS. One entry of a counter's row, and what the two kinds of message do to it: document 01's "Count, clear, take, read", with the
+-- DEFINITIONS. One entry of a counter's row, and what the two kinds of message do to it: SPECIFICATION 4, with the
 -- lines of Algorithm 1 that each sentence stands for (`Algorithm1` has the lines themselves).
--- An increment has an amount w. In document 01 w is 1: read `+ w` as "+ 1" and `p - w` as "p - 1".
+-- An increment has an amount w. In the specification w is 1: read `+ w` as "+ 1" and `p - w` as "p - 1".
 -- The entry is the struct of `src/lib.rt`, so a contract cites these definitions with nothing in between.
 use Prim.Native.Nat.{ℕ, _+_, _-_, max}
 use mathlib.Core.Bool.{Bool, not, cond, _&&_, _||_}

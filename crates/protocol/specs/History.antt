@@ -27,7 +27,7 @@ total f (a ∷ s) = f a + total f s
 
 -- ---- messages
 
--- A message, as a planner sees it: an increment by an amount, or a clear. (Document 01's increments are by 1.)
+-- A message, as a planner sees it: an increment by an amount, or a clear. (The specification's increments are by 1.)
 pub record Sent : Type 0 where
   -- its name: the sender, and the sequence, "counting all messages of that sender from 1"
   pub id : Name

@@ -1,6 +1,6 @@
--- DEFINITIONS. Document 01's "The ledger", each of its sentences quoted above what says it, in the document's order but for one thing:
+-- DEFINITIONS. The ledger (SPECIFICATION 7), each of its sentences quoted above what says it, in that order but for one thing:
 -- how the ledger is fed comes after the three steps, since a definition stands above its use.
--- A count has an amount w and makes w names. In document 01 w is 1: "a new name".
+-- A count has an amount w and makes w names. In the specification w is 1: "a new name".
 use Prim.Native.Nat.{ℕ, zero, suc, max}
 use mathlib.Core.Bool.{Bool, true, false, not, cond, _||_}
 use mathlib.Core.List.{List, [], _∷_, _++_}
@@ -112,7 +112,7 @@ sent i it l = record { received = l .received; cancelled = l .cancelled; queue =
 unfoldable pub made : ℕ → Item → Ledger → Ledger
 made i it l = applied i it (sent i it l)
 
--- ---- "It is fed the list's steps in order and told which of them were accepted (number 0). It takes nothing else from answers, books or logs."
+-- ---- "It is fed the list's steps in order and told which of them were accepted (number 0). It takes nothing else from answers, replicas or logs."
 
 -- "an accepted step of another counter changes only its queues"
 unfoldable pub after-accepted : ℕ → ℕ → Step → Ledger → Ledger

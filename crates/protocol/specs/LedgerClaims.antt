@@ -1,4 +1,4 @@
--- CLAIMS. What the ledger of a counter does when it is fed, whichever of the steps were accepted, and which counter a delivery belongs to. Each has document 01's
+-- CLAIMS. What the ledger of a counter does when it is fed, whichever of the steps were accepted, and which counter a delivery belongs to. Each has the specification's
 -- sentence, its statement, and the law that proves it. `after-steps r q ss flags empty-ledger` is counter q's ledger, fed the steps and told which were accepted.
 use Prim.Native.Nat.{ℕ, suc, _+_}
 use mathlib.Core.Path.{_≡_, refl, sym}
@@ -36,7 +36,7 @@ pub count-adds-new-names : (r q i w : ℕ) (ss : List Step) (flags : List Bool)
 count-adds-new-names r q i w ss flags =
     (new-to-all r q ss flags i w, maker-gains r q ss flags i w, others-stay r q ss flags i w, value-gains r q ss flags i w)
 
--- By 1, as in document 01, it is one name: card i's next.
+-- By 1, as in the specification, it is one name: card i's next.
 pub one-new-name : (i earlier : ℕ) → names-after i earlier 1 ≡ name i (suc earlier) ∷ []
 unfolding names-after
 one-new-name i earlier = refl

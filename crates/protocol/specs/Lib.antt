@@ -11,6 +11,7 @@ pub mod Ledger
 pub mod Chassis
 pub mod Algorithm1
 pub mod Rows
+pub mod Acceptance
 pub mod Runs
 pub mod Store
 -- One counter's own steps; read-and-clear; amounts; deliveries in rounds; messages made and received; what was cleared.
@@ -42,9 +43,11 @@ pub mod ClearClaims
 pub mod ClearedExamples
 -- LAWS. Case splits, tables, lists.
 pub mod Cases
+pub mod Tests
 pub mod ChecksLaws
 pub mod Tables
 pub mod Lists
+pub mod StoredLists
 -- Algorithm 1 in its two forms.
 pub mod Algorithm1Laws
 -- One entry against marks; sets of names against numbers; a card's messages as the proof sees them.
@@ -98,3 +101,5 @@ pub mod CaughtUpLaws
 pub mod ClearedLaws
 -- Replicas kept in words.
 pub mod StoreLaws
+-- What a card asks before it accepts.
+pub mod AcceptanceLaws

@@ -1,4 +1,4 @@
--- DEFINITIONS. The limits and the refusal numbers of document 01 ("Ground covered", "When a call declines").
+-- DEFINITIONS. The limits and the refusal numbers (SPECIFICATION 1.1, 5.1).
 use Prim.Native.Nat.{ℕ}
 
 -- "MAX = 281,474,976,710,655 (2^48 - 1)."
@@ -12,11 +12,11 @@ most-cards = 16
 abbrev pub most-counters : ℕ
 most-counters = 64
 
--- "Book length, r, k or own card wrong"
+-- "Replica length, r, k or own card wrong"
 abbrev pub bad-replica : ℕ
 bad-replica = 1
 
--- "Row not sound"
+-- "Row not well-formed"
 abbrev pub bad-row : ℕ
 bad-row = 2
 

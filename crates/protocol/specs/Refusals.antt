@@ -93,7 +93,7 @@ module _ (r q : ℕ) (st : Chassis) (l : Ledger) (k : Invariant r q st l) where
     rw (k .own j) (k .cards i .pairs j .within),
   )
 
--- ---- where every amount is 1, C is at most N (document 01's row; request 2026-05 drops it)
+-- ---- where every amount is 1, C is at most N (the specification's row; request 2026-05 drops it)
 
 pub after-units : (q : ℕ) (t : Note) (m : Mark) → after t m .units ≡ m .units + units-of (wire q t)
 after-units q (chain.other x) m = refl
@@ -166,12 +166,12 @@ run-C≤N r i j os a =
 
 -- every row is well-formed, if no card has made more than `most` messages
 pub run-well-formed : (r q i most : ℕ) (os : List Offer) → AmountsOne os → ((n : ℕ) → n < r → after-run r os .replica n .N n ≤ most)
-    → WellFormedRow most i q (after-run r os .replica i)
-run-well-formed r q i most os ones fits = record {
-  C≤N = λ j. run-C≤N r i j os ones;
-  N≤most = λ j. let a = made j in let b = received-within r q st l k i j .1 in omega arith;
-  entries = row-well-formed r q st l k most (λ n. let a = made n in let b = run-C≤N r n n os ones in omega arith) i;
-  own = own-row-well-formed r q st l k i;
+    → (cards : ℕ) → let b = after-run r os .replica i in WellFormedRow most cards i (b .C) (b .N) (b .entry q)
+run-well-formed r q i most os ones fits cards = record {
+  C≤N = λ j below. run-C≤N r i j os ones;
+  N≤MAX = λ j below. let a = made j in let b = received-within r q st l k i j .1 in omega arith;
+  entry = λ j below. row-well-formed r q st l k most (λ n. let a = made n in let b = run-C≤N r n n os ones in omega arith) i j;
+  own≤C = own-row-well-formed r q st l k i;
 }
   where
     st : Chassis

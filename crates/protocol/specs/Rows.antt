@@ -1,11 +1,11 @@
--- DEFINITIONS. What a card asks before it accepts: a well-formed row (refusal 2) and a plausible message (refusal 10).
--- `most` is MAX in document 01. Amounts are 1 there: then `C s + w` is "C[j] + 1", and `w < p` says that p is not 1.
+-- DEFINITIONS. What the tests of `Acceptance` say in plain numbers: a well-formed row (refusal 2) and a plausible message (refusal 10).
+-- `most` is MAX in the specification. Amounts are 1 there: then `C s + w` is "C[j] + 1", and `w < p` says that p is not 1.
 use Prim.Native.Nat.{ℕ, _+_, _≤_, _<_}
 use mathlib.Core.Path.{_≡_}
 use mathlib.Core.Bool.{true, false}
 use mathlib.Core.List.{List, [], _∷_}
 use Rattle.protocol.specs.Entry.{Entry}
-use Rattle.protocol.specs.Chassis.{Message, increment, clearing, ClearEntry, Replica}
+use Rattle.protocol.specs.Chassis.{Message, increment, clearing, ClearEntry}
 
 -- "each entry of the counter is absent or has 1 <= p <= c <= MAX and n <= p": where p is 0, all three numbers are
 pub record WellFormed (most : ℕ) (e : Entry) : Type 0 where
@@ -14,15 +14,15 @@ pub record WellFormed (most : ℕ) (e : Entry) : Type 0 where
   pub c≤most : e .c ≤ most
   pub absent-whole : e .p ≡ 0 → e .c ≡ 0
 
--- Document 01's "sound": counter q's row in the replica b of card i.
-pub record WellFormedRow (most i q : ℕ) (b : Replica) : Type 0 where
-  -- "A row is sound when all C[j] <= N[j] <= MAX"
-  pub C≤N : (j : ℕ) → b .C j ≤ b .N j
-  pub N≤most : (j : ℕ) → b .N j ≤ most
+-- One counter's row on a card `own`, of the cards below r.
+pub record WellFormedRow (most r own : ℕ) (C N : ℕ → ℕ) (row : ℕ → Entry) : Type 0 where
+  -- "A row is well-formed when all C[j] <= N[j] <= MAX"
+  pub C≤N : (j : ℕ) → j < r → C j ≤ N j
+  pub N≤MAX : (j : ℕ) → j < r → N j ≤ most
   -- "and each entry of the counter is absent or has 1 <= p <= c <= MAX and n <= p"
-  pub entries : (j : ℕ) → WellFormed most (b .entry q j)
+  pub entry : (j : ℕ) → j < r → WellFormed most (row j)
   -- "and the card's own entry has c <= its own C."
-  pub own : b .entry q i .c ≤ b .C i
+  pub own≤C : row own .c ≤ C own
 
 -- "Implausible: .. a clear whose entry for the receiving card or for the sender has c above the receiver's C of that card."
 -- i receives, s sends, and C is i's.

@@ -9,7 +9,7 @@ use Rattle.protocol.specs.Chassis.{Chassis, fresh-chassis, Offer, run, a
 abbrev pub step-of : Offer → Step
 step-of o = o .step
 
--- "All books begin fresh."
+-- "All replicas begin fresh."
 abbrev pub after-run : ℕ → List Offer → Chassis
 after-run r os = run r os fresh-chassis
 
@@ -21,7 +21,7 @@ ledger-after r q os = after-steps r q (map step-of os) (answers r os fresh-chass
 abbrev pub all-accepted {ℓ} : {A : Type ℓ} → List A → List Bool
 all-accepted ss = map (λ s. true) ss
 
--- ---- every count by 1, as in document 01
+-- ---- every count by 1, as in the specification
 
 abbrev pub StepByOne : Step → Type 0
 StepByOne (count i q w) = w ≤ 1

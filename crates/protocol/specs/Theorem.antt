@@ -1,4 +1,4 @@
--- LAWS. The ledger theorem (document 01's demand 3). The invariant holds of a fresh chassis (`fresh-invariant`), every step keeps it (`step-invariant`), and it
+-- LAWS. The ledger theorem (SPECIFICATION 7). The invariant holds of a fresh chassis (`fresh-invariant`), every step keeps it (`step-invariant`), and it
 -- gives what a card reads (`value-is`, `holders-are`). So after any list of steps a card reads of a counter what that counter's ledger says.
 use Prim.Native.Nat.{ℕ, zero, suc, _^_, _≤_, _<_}
 use mathlib.Core.Path.{_≡_, refl, sym, ap, _∙_}

@@ -1,14 +1,14 @@
-// What every layer shares: the limits and refusal numbers of document 01, and the two kinds of entry.
+// What every layer shares: the limits and refusal numbers (SPECIFICATION 1.1, 5.1), and the two kinds of entry.
 // The theory is in specs/; the structs stand here so that the theory's records and the code's structs are one type.
 
-// MAX of document 01: 2^48 - 1.
+// 2^48 - 1.
 pub const MAX: u64 = 281474976710655;
 
 pub const MOST_CARDS: u64 = 16;
 
 pub const MOST_COUNTERS: u64 = 64;
 
-// The refusals, in the order of document 01's table.
+// The refusals, in the order of the specification's table.
 pub const BAD_REPLICA: u64 = 1;
 
 pub const BAD_ROW: u64 = 2;

@@ -6,8 +6,9 @@ use mir.Val.{Val}
 use lib.ListN.{length, length-map}
 use denote.Laws.{Is}
 use denote.Struct.Declared.{row}
+use Rattle.protocol.specs.Limits.{most-cards}
 use Rattle.wire.specs.declared.Message.{Message}
 use Rattle.wire.proofs.Message.{the-type}
 
-pub sixteen : (m : Message) {vs : List Val} → Is (row the-type) m vs → length (m .entries) ≡ 16
+pub sixteen : (m : Message) {vs : List Val} → Is (row the-type) m vs → length (m .entries) ≡ most-cards
 sixteen m owned = sym (length-map (m .entries) _) ∙ owned .1 .1 .1 .1 .1 .1 .1 .1 .1 .1 .0 .1 .0 .1

@@ -1,23 +1,22 @@
--- LAWS. What a message that is received does to the words, from the parts that the code computes one after the other.
-use Prim.Native.Nat.{ℕ, zero, suc, _+_, _-_, _*_, _≤_, _<_}
+-- LAWS. What a message that is received does to the words, from the parts that effect.rt computes one after the other.
+use Prim.Native.Nat.{ℕ, _+_, _≤_, _<_}
 use mathlib.Core.Path.{_≡_, refl, ap, _∙_}
-use mathlib.Core.Bool.{Bool, true, false, cond}
-use mathlib.Core.List.{List, [], _∷_, _++_, append-nil}
+use mathlib.Core.Bool.{Bool}
+use mathlib.Core.List.{List}
 use native.Mathlib.Numerals.{add-one}
 use native.Mathlib.Omega.{arith}
-use mir.Val.{boolByte}
-use borrow.Author.Tests.{lt-ltb}
-use lib.ListN.{length, getD, set, drop, replicate, length-append, drop-of-length-le}
-use lib.Seq.{set-getD, drop-cons, set-append-seam, append-snoc}
+use lib.ListN.{length, getD, drop, drop-of-length-le}
+use lib.Seq.{drop-cons}
 use Rattle.protocol.specs.declared.Entry.{Entry}
 use Rattle.protocol.specs.declared.ClearEntry.{ClearEntry}
-use Rattle.protocol.specs.Entry.{present, incremented, cleared}
-use Rattle.protocol.specs.Chassis.{increment, clearing, present-entries}
-use Rattle.protocol.specs.StoreLaws.{CardsBelow, cleared-words, taken-words}
+use Rattle.protocol.specs.Entry.{incremented, cleared}
+use Rattle.protocol.specs.Chassis.{Message, increment, clearing, counter-of}
+use Rattle.protocol.specs.StoreLaws.{CardsBelow, cleared-words, taken-words, cleared-C, cleared-N}
 use Rattle.wire.specs.Message.{no-entry}
-use Rattle.replica_model.specs.Layout.{head, at-C, at-N, C-of, N-of, entry-of, set-C, set-N, set-entry}
-use Rattle.replica_model.specs.LayoutLaws.{layout, C-entry, set-three-length}
-use Rattle.replica.specs.RowFacts.{Row, row-set-entry}
+use Rattle.replica_model.specs.Layout.{cards, counters, C-of, N-of, entry-of, set-C, set-N, set-entry, layout}
+use Rattle.replica_model.specs.LayoutLaws.{lawful, set-C-same, set-entry-length}
+use Rattle.replica_model.specs.Calls.{words-after}
+use Rattle.replica.specs.WordsLaws.{RowInside, row-entry}
 
 -- the largest that a word can hold
 abbrev pub last-word : ℕ
@@ -25,112 +24,76 @@ last-word = 18446744073709551615
 
 -- what an effector asks: a row inside the words, the message's card in it, and room to count one more message of that card
 pub record Receives (b : List ℕ) (r q j : ℕ) : Type 0 where
-  pub row : Row b r q
+  pub row : RowInside b r q
   pub card : j < r
   pub N-room : N-of r b j < last-word
 
--- a message of card j, of which C was `known`, that brings w increments
-abbrev pub received : ℕ → ℕ → ℕ → ℕ → List ℕ → List ℕ
-received r j known w b = set-N r j (N-of r b j + 1) (set-C j (known + w) b)
+pub receives-entry : (b : List ℕ) (r q j j′ : ℕ) (e : Entry) → j′ < r → Receives b r q j → Receives (set-entry r q j′ e b) r q j
+receives-entry b r q j j′ e l h = record {
+  row = row-entry b r q (h .row) j′ e l;
+  card = h .card;
+  N-room = rw (lawful r (counters b) .N-entry q j′ e b l j (h .card)) (h .N-room);
+}
 
-pub receives-entry : (b : List ℕ) (r q j j′ : ℕ) (e : Entry) → Receives b r q j → Receives (set-entry r q j′ e b) r q j
-receives-entry b r q j j′ e h =
-    let seen = C-entry r q q j′ e b (at-N r j) (omega arith) in
-    record { row = row-set-entry b r q j′ e (h .row); card = h .card; N-room = omega arith }
+-- one message more of card j, from which `received` increments had come, and w more
+abbrev pub with-message : ℕ → ℕ → ℕ → ℕ → List ℕ → List ℕ
+with-message r j received w b = set-N r j (N-of r b j + 1) (set-C j (received + w) b)
 
 -- one entry of a clear
 abbrev pub entry-cleared : ℕ → ℕ → ClearEntry → List ℕ → List ℕ
 entry-cleared r q e b = set-entry r q (e .card) (cleared (e .p) (e .c) (C-of b (e .card)) (entry-of r b q (e .card))) b
 
-module _ (r k : ℕ) where
-  -- ---- an increment
+after-is : (b : List ℕ) (r s : ℕ) (m : Message) → r ≡ cards b → taken-words (layout r (counters b)) (counter-of m) s m b ≡ words-after s m b
+unfolding words-after
+after-is b r s m e = ap (λ (x : ℕ). taken-words (layout x (counters b)) (counter-of m) s m b) e
 
-  pub increment-taken : (q j p : ℕ) (start : Bool) (b : List ℕ) → j < r
-      → received r j (C-of b j) 1 (set-entry r q j (incremented 1 p start (C-of b j) (entry-of r b q j)) b)
-      ≡ taken-words r k (layout r k) j (increment q 1 p start) b
+module _ (b : List ℕ) (r q j : ℕ) (h : Receives b r q j) where
+  pub increment-taken : (p : ℕ) (start : Bool)
+      → with-message r j (C-of b j) 1 (set-entry r q j (incremented 1 p start (C-of b j) (entry-of r b q j)) b) ≡ words-after j (increment q 1 p start) b
   unfolding taken-words
-  increment-taken q j p start b l = rw (C-entry r k q j (incremented 1 p start (C-of b j) (entry-of r b q j)) b (at-N r j) (omega arith), add-one (N-of r b j))
+  increment-taken p start =
+      rw (lawful r (counters b) .N-entry q j (incremented 1 p start (C-of b j) (entry-of r b q j)) b (h .card) j (h .card), add-one (N-of r b j))
+      (after-is b r j (increment q 1 p start) (h .row .first))
 
-  -- ---- a clear
-
-  -- C and N stay
-  pub clear-keeps : (q : ℕ) (es : List ClearEntry) (b : List ℕ) (i : ℕ) → i < head + 2 * r → getD (cleared-words r k (layout r k) q es b) i 0 ≡ getD b i 0
-  unfolding cleared-words
-  clear-keeps q [] b i l = refl
-  clear-keeps q (e ∷ es) b i l = clear-keeps q es (entry-cleared r q e b) i l ∙ C-entry r k q (e .card) (cleared (e .p) (e .c) (C-of b (e .card)) (entry-of r b q (e .card))) b i l
-
-  pub clear-taken : (q j : ℕ) (es : List ClearEntry) (b b′ : List ℕ) → j < r → b′ ≡ cleared-words r k (layout r k) q es b
-      → received r j (C-of b j) 0 b′ ≡ taken-words r k (layout r k) j (clearing q es) b
+  -- a clear, when its entries have been taken: it brings no increment, so C stays
+  pub clear-taken : (es : List ClearEntry) (b′ : List ℕ) → CardsBelow r es → b′ ≡ cleared-words (layout r (counters b)) q es b
+      → with-message r j (C-of b j) 0 b′ ≡ words-after j (clearing q es) b
   unfolding taken-words
-  clear-taken q j es b b′ l e =
-      let known : C-of b j + 0 ≡ C-of b′ j = omega (arith, ap (λ (x : List ℕ). C-of x j) e, clear-keeps q es b (at-C j) (omega arith)) in
-      let seen : N-of r b′ j ≡ N-of r b j = rw e (clear-keeps q es b (at-N r j) (omega arith)) in
-      rw (known, set-getD b′ (at-C j) 0, seen, add-one (N-of r b j), e)
+  clear-taken es b′ on e =
+      let S = layout r (counters b) in
+      let law = lawful r (counters b) in
+      let C-stays : C-of b′ j ≡ C-of b j = rw e (cleared-C r (counters b) S law q es b on j (h .card)) in
+      let N-stays : N-of r b′ j ≡ N-of r b j = rw e (cleared-N r (counters b) S law q es b on j (h .card)) in
+      let same : C-of b j + 0 ≡ C-of b′ j = omega (arith, C-stays) in
+      rw (same, set-C-same j b′, N-stays, add-one (N-of r b j), e) (after-is b r j (clearing q es) (h .row .first))
 
+-- ---- the loop over a clear's entries
+
+module _ (r k q j : ℕ) (es : List ClearEntry) (b : List ℕ) where
   -- what is left to do when the first i entries of the clear es have been taken, and b has become b′
-  pub record Clearing (q j : ℕ) (es : List ClearEntry) (b : List ℕ) (i : ℕ) (b′ : List ℕ) : Type 0 where
+  pub record Clearing (i : ℕ) (b′ : List ℕ) : Type 0 where
     pub receives : Receives b′ r q j
     pub left : CardsBelow r (drop i es)
-    pub same : cleared-words r k (layout r k) q (drop i es) b′ ≡ cleared-words r k (layout r k) q es b
+    pub same : cleared-words (layout r k) q (drop i es) b′ ≡ cleared-words (layout r k) q es b
     pub long : length b′ ≡ length b
 
-  module _ (q j : ℕ) (es : List ClearEntry) (b : List ℕ) where
-    pub clearing-begins : Receives b r q j → CardsBelow r es → Clearing q j es b 0 b
-    clearing-begins h cs = record { receives = h; left = cs; same = refl; long = refl }
+  pub clearing-begins : Receives b r q j → CardsBelow r es → Clearing 0 b
+  clearing-begins h on = record { receives = h; left = on; same = refl; long = refl }
 
-    module _ (i : ℕ) (b′ : List ℕ) (h : Clearing q j es b i b′) where
-      module _ (l : i < length es) where
-        pub next-card : getD es i no-entry .card < r
-        next-card = (rw (drop-cons es i no-entry l) at (h .left)) .0
+  module _ (i : ℕ) (b′ : List ℕ) (h : Clearing i b′) where
+    module _ (l : i < length es) where
+      pub next-card : getD es i no-entry .card < r
+      next-card = (rw (drop-cons es i no-entry l) at (h .left)) .0
 
-        pub clearing-turn : Clearing q j es b (i + 1) (entry-cleared r q (getD es i no-entry) b′)
-        unfolding cleared-words
-        clearing-turn = record {
-          receives = receives-entry b′ r q j _ _ (h .receives);
-          left = rw (add-one i) ((rw (drop-cons es i no-entry l) at (h .left)) .1);
-          same = rw (add-one i) (rw (drop-cons es i no-entry l) at (h .same));
-          long = set-three-length b′ _ _ _ _ ∙ h .long;
-        }
-
-      pub clearing-ends : length es ≤ i → b′ ≡ cleared-words r k (layout r k) q es b
+      pub clearing-turn : Clearing (i + 1) (entry-cleared r q (getD es i no-entry) b′)
       unfolding cleared-words
-      clearing-ends l = rw (drop-of-length-le es l) at (h .same)
+      clearing-turn = record {
+        receives = receives-entry b′ r q j _ _ next-card (h .receives);
+        left = rw (add-one i) ((rw (drop-cons es i no-entry l) at (h .left)) .1);
+        same = rw (add-one i) (rw (drop-cons es i no-entry l) at (h .same));
+        long = set-entry-length r q _ _ b′ ∙ h .long;
+      }
 
--- ---- what a clear sends: the present entries, and zeros past them in an array of sixteen
-
-abbrev pub padded : List ClearEntry → List ClearEntry
-padded es = es ++ replicate (16 - length es) no-entry
-
--- a test as a number
-pub flag-is : (t : Bool) → boolByte t ≡ cond t 1 0
-flag-is true = refl
-flag-is false = refl
-
-one-more : (t : Bool) (es : List ClearEntry) (e : ClearEntry) (j : ℕ) → length es ≤ j → length (es ++ cond t (e ∷ []) []) ≤ suc j
-one-more true es e j few = omega (arith, length-append es (e ∷ []))
-one-more false es e j few = omega (arith, length-append es [])
-
--- the padding gives up its first place
-pub padded-next : (es : List ClearEntry) (e : ClearEntry) → length es < 16 → set (padded es) (length es) e ≡ padded (es ++ e ∷ [])
-padded-next es e l =
-    let more : 16 - length es ≡ suc (15 - length es) = omega arith in
-    let less : 16 - (length es + 1) ≡ 15 - length es = omega arith in
-    rw (more, set-append-seam es no-entry (replicate (15 - length es) no-entry) e, length-append es (e ∷ []), less, append-snoc es e (replicate (15 - length es) no-entry))
-
-positive : (n : ℕ) → (n ≡ 0 → ⊥) → 0 < n
-positive zero some = absurd (some refl)
-positive (suc n) some = omega arith
-
-module _ (row : ℕ → Entry) where
-  pub absent-turn : (j : ℕ) → row j .p ≡ 0 → present-entries (j + 1) row ≡ present-entries j row
-  unfolding present-entries
-  absent-turn j none = rw (add-one j, none) (append-nil (present-entries j row))
-
-  pub present-turn : (j : ℕ) → (row j .p ≡ 0 → ⊥) → present-entries (j + 1) row ≡ present-entries j row ++ record { card = j; p = row j .p; c = row j .c } ∷ []
-  unfolding present-entries
-  present-turn j some = rw (add-one j, lt-ltb 0 (row j .p) (positive (row j .p) some))
-
-  pub present-few : (j : ℕ) → length (present-entries j row) ≤ j
-  unfolding present-entries
-  present-few zero = omega arith
-  present-few (suc j) = one-more (present (row j)) (present-entries j row) _ j (present-few j)
+    pub clearing-ends : length es ≤ i → b′ ≡ cleared-words (layout r k) q es b
+    unfolding cleared-words
+    clearing-ends l = rw (drop-of-length-le es l) at (h .same)

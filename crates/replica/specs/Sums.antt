@@ -9,10 +9,11 @@ use native.Mathlib.Omega.{arith}
 use lib.Bits.{bitOr, or-shifted-r}
 use lib.Count.{ones, ones-cat}
 use lib.Dec.{lit<}
+use mir.Val.{boolByte}
 use lib.Pow.{pow-add, field, high, shl-exact}
 use Rattle.protocol.specs.Cases.{by-place}
 use Rattle.protocol.specs.Tables.{sum, bits}
-use Rattle.replica_model.specs.Calls.{count-below}
+use Rattle.protocol.specs.Functions.{count-below}
 
 -- ---- sums
 
@@ -26,6 +27,11 @@ sum-below zero m f small = omega arith
 sum-below (suc n) m f small = omega (arith, suc-mul n m, small n (omega arith), sum-below n m f (λ j l. small j (omega arith)))
 
 -- ---- masks
+
+-- a test as a number
+pub flag-is : (t : Bool) → boolByte t ≡ cond t 1 0
+flag-is true = refl
+flag-is false = refl
 
 abbrev bit : Bool → ℕ
 bit t = cond t 1 0

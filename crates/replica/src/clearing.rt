@@ -6,16 +6,16 @@ use protocol::ClearEntry;
 use replica_model::Sent;
 use wire::Message;
 ghost use mathlib.Core.Path.{_≡_};
-ghost use Rattle.protocol.specs.Chassis.{clear-message};
 ghost use Rattle.replica_model.specs.Layout.{cards};
-ghost use Rattle.replica_model.specs.Calls.{SendOutcome, state, sent, clear-on};
-ghost use Rattle.replica.specs.SendLaws.{Sends};
+ghost use Rattle.replica_model.specs.Calls.{SendOutcome, clear-of, clear-on};
+ghost use Rattle.replica_model.specs.Senders.{Sending};
+ghost use Rattle.replica.specs.SendLaws.{with-room};
 
 // The call where every check but the last has passed. Nothing is written before that one. The message, of every present entry (line 29), is made
 // here and not in a function that returns it, which would copy it.
 fn send_clear(words: &mut [u64], r: usize, q: usize, out: &mut [u8]) -> Sent
-    requires { ⌜ Sends (now words) r q ⌝ }
-    ensures { λ a. ⌜ _≡_ {A = SendOutcome} (record { answer = a; words = now (words .exit); out = now (out .exit) }) (sent (now (words .entry)) (now (out .entry)) (clear-message (cards (now (words .entry))) q (state (now (words .entry))))) ⌝ }
+    requires { ⌜ (r ≡ cards (now words)) × Sending (now words) q ⌝ }
+    ensures { λ a. ⌜ _≡_ {A = SendOutcome} (record { answer = a; words = now (words .exit); out = now (out .exit) }) (with-room (now (words .entry)) (now (out .entry)) (clear-of (now (words .entry)) q)) ⌝ }
 {
     let own = words::own_card(words);
     let sequence = words::messages_at(words, r, own) + 1;
@@ -28,7 +28,7 @@ fn send_clear(words: &mut [u64], r: usize, q: usize, out: &mut [u8]) -> Sent
         p: 0,
         start: 0,
         len: 0,
-        entries: [effect::NO_ENTRY; 16],
+        entries: [wire::NO_ENTRY; wire::MOST_ENTRIES],
     };
     let mut len: usize = 0;
     let mut j: usize = 0;

@@ -8,35 +8,35 @@ ghost use mathlib.Core.Path.{_≡_};
 ghost use Prim.Native.Nat.{_≤_};
 ghost use Rattle.protocol.specs.Limits.{MAX};
 ghost use Rattle.protocol.specs.Entry.{count-p};
-ghost use Rattle.protocol.specs.Chassis.{count-message};
-ghost use Rattle.replica_model.specs.Layout.{own-card};
-ghost use Rattle.replica_model.specs.Calls.{SendOutcome, state, sent, count-on};
-ghost use Rattle.replica.specs.SendLaws.{Sends};
+ghost use Rattle.replica_model.specs.Layout.{cards};
+ghost use Rattle.replica_model.specs.Calls.{SendOutcome, count-of, count-on};
+ghost use Rattle.replica_model.specs.Senders.{Sending};
+ghost use Rattle.replica.specs.SendLaws.{with-room};
 
 // Lines 13 to 16: p goes on from the own entry, and from all that the card has counted where there is none.
-fn next_p(e: Entry, known: u64) -> u64
-    requires { ⌜ (e .p ≤ MAX) × (known ≤ MAX) ⌝ }
-    ensures { λ a. ⌜ a ≡ count-p 1 known e ⌝ }
+fn next_p(e: Entry, counted: u64) -> u64
+    requires { ⌜ (e .p ≤ MAX) × (counted ≤ MAX) ⌝ }
+    ensures { λ a. ⌜ a ≡ count-p 1 counted e ⌝ }
 {
     if 0 < e.p {
         return e.p + 1;
     }
-    known + 1
+    counted + 1
 }
 
 // The call where every check but the last has passed. Nothing is written before that one.
 fn send_increment(words: &mut [u64], r: usize, q: usize, out: &mut [u8]) -> Sent
-    requires { ⌜ Sends (now words) r q ⌝ }
-    ensures { λ a. ⌜ _≡_ {A = SendOutcome} (record { answer = a; words = now (words .exit); out = now (out .exit) }) (sent (now (words .entry)) (now (out .entry)) (count-message (own-card (now (words .entry))) q 1 (state (now (words .entry))))) ⌝ }
+    requires { ⌜ (r ≡ cards (now words)) × Sending (now words) q ⌝ }
+    ensures { λ a. ⌜ _≡_ {A = SendOutcome} (record { answer = a; words = now (words .exit); out = now (out .exit) }) (with-room (now (words .entry)) (now (out .entry)) (count-of (now (words .entry)) q)) ⌝ }
 {
     if out.len() < wire::INCREMENT_BYTES {
         return sending::refused(protocol::SHORT_OUTPUT);
     }
     let own = words::own_card(words);
     let e = words::entry_at(words, r, q, own);
-    let known = words::increments_at(words, own);
+    let counted = words::increments_at(words, own);
     let sequence = words::messages_at(words, r, own) + 1;
-    let p = next_p(e, known);
+    let p = next_p(e, counted);
     let start = !(0 < e.p);
     wire::encode::put_increment(own as u32, sequence, q as u32, p, start as u32, out);
     effect::apply_increment(words, r, q, own, p, start);

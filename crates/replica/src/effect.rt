@@ -7,22 +7,17 @@ use wire::Message;
 ghost use mathlib.Core.Path.{_≡_};
 ghost use mathlib.Core.Bool.{cond, not, _||_};
 ghost use Prim.Native.Nat.{max, _-_, _+_, _≤_, _<_};
-ghost use lib.ListN.{length, take};
+ghost use lib.ListN.{take};
+ghost use Rattle.protocol.specs.Limits.{most-cards};
 ghost use Rattle.protocol.specs.Entry.{present, larger, removeIf, finished, settled, incremented, cleared};
 ghost use Rattle.protocol.specs.Chassis.{increment, clearing};
-ghost use Rattle.protocol.specs.StoreLaws.{CardsBelow, taken-words};
-ghost use Rattle.replica_model.specs.Layout.{counters, at-N, C-of, N-of};
-ghost use Rattle.replica_model.specs.LayoutLaws.{layout};
-ghost use Rattle.replica.specs.RowFacts.{Row};
-ghost use Rattle.replica.specs.Effects.{last-word, Receives, received, entry-cleared};
+ghost use Rattle.protocol.specs.StoreLaws.{CardsBelow};
+ghost use Rattle.replica_model.specs.Layout.{C-of, N-of};
+ghost use Rattle.replica_model.specs.Calls.{words-after};
+ghost use Rattle.replica.specs.WordsLaws.{NInside, RowInside};
+ghost use Rattle.replica.specs.Effects.{last-word, Receives, with-message, entry-cleared};
 
 const ABSENT: Entry = Entry { p: 0, n: 0, c: 0 };
-
-pub(crate) const NO_ENTRY: ClearEntry = ClearEntry {
-    card: 0,
-    p: 0,
-    c: 0,
-};
 
 fn larger(x: u64, y: u64) -> u64
     ensures { λ a. ⌜ a ≡ max x y ⌝ }
@@ -63,82 +58,82 @@ fn without_finished(c: u64, e: Entry) -> Entry
 }
 
 // Lines 37 and 38, likewise.
-fn without_settled(known: u64, e: Entry) -> Entry
-    ensures { λ a. ⌜ a ≡ removeIf (settled known e) e ⌝ }
+fn without_settled(received: u64, e: Entry) -> Entry
+    ensures { λ a. ⌜ a ≡ removeIf (settled received e) e ⌝ }
 {
-    if (e.p == e.n) & (e.c <= known) {
+    if (e.p == e.n) & (e.c <= received) {
         return ABSENT;
     }
     e
 }
 
-// An increment; `known` is C of its sender before it.
-pub(crate) fn incremented_entry(p: u64, start: bool, known: u64, e: Entry) -> Entry
-    requires { ⌜ (1 ≤ p) × (known < last-word) ⌝ }
-    ensures { λ a. ⌜ a ≡ incremented 1 p start known e ⌝ }
+// An increment; `received` is C of its sender before it.
+fn incremented_entry(p: u64, start: bool, received: u64, e: Entry) -> Entry
+    requires { ⌜ (1 ≤ p) × (received < last-word) ⌝ }
+    ensures { λ a. ⌜ a ≡ incremented 1 p start received e ⌝ }
 {
     let n = brought_n(p, start, e);
-    let c = known + 1;
+    let c = received + 1;
     without_finished(c, larger_entry(e, Entry { p, n, c }))
 }
 
-// An entry (p, c) of a clear; `known` is C of the entry's card.
-pub(crate) fn cleared_entry(p: u64, c: u64, known: u64, e: Entry) -> Entry
-    ensures { λ a. ⌜ a ≡ cleared p c known e ⌝ }
+// An entry (p, c) of a clear; `received` is C of the entry's card.
+fn cleared_entry(p: u64, c: u64, received: u64, e: Entry) -> Entry
+    ensures { λ a. ⌜ a ≡ cleared p c received e ⌝ }
 {
     if 0 < e.p {
-        return without_settled(known, larger_entry(e, Entry { p, n: p, c }));
+        return without_settled(received, larger_entry(e, Entry { p, n: p, c }));
     }
-    if known < c {
+    if received < c {
         return Entry { p, n: p, c };
     }
     e
 }
 
-// A message of card j has come: N[j] rises by one, and C[j], which was `known`, by the increments that the message brings (line 26).
-fn receive(b: &mut [u64], r: usize, j: usize, known: u64, increments: u64)
-    requires { ⌜ (at-N r j < length (now b)) × (known + increments ≤ last-word) × (N-of r (now b) j < last-word) ⌝ }
-    ensures { λ _. ⌜ now (b .exit) ≡ received r j known increments (now (b .entry)) ⌝ }
+// A message of card j has come: N[j] rises by one, and C[j], which was `received`, by the increments that the message brings (line 26).
+fn receive(words: &mut [u64], r: usize, j: usize, received: u64, increments: u64)
+    requires { ⌜ NInside r (now words) j × (received + increments ≤ last-word) × (N-of r (now words) j < last-word) ⌝ }
+    ensures { λ _. ⌜ now (words .exit) ≡ with-message r j received increments (now (words .entry)) ⌝ }
 {
-    let messages = words::messages_at(b, r, j);
-    words::set_increments(b, j, known + increments);
-    words::set_messages(b, r, j, messages + 1);
+    let messages = words::messages_at(words, r, j);
+    words::set_increments(words, j, received + increments);
+    words::set_messages(words, r, j, messages + 1);
 }
 
 // Lines 17 to 26, for an increment of card j on counter q.
-pub(crate) fn apply_increment(b: &mut [u64], r: usize, q: usize, j: usize, p: u64, start: bool)
-    requires { ⌜ Receives (now b) r q j × (1 ≤ p) × (C-of (now b) j < last-word) ⌝ }
-    ensures { λ _. ⌜ now (b .exit) ≡ taken-words r (counters (now (b .entry))) (layout r (counters (now (b .entry)))) j (increment q 1 p start) (now (b .entry)) ⌝ }
+pub(crate) fn apply_increment(words: &mut [u64], r: usize, q: usize, j: usize, p: u64, start: bool)
+    requires { ⌜ Receives (now words) r q j × (1 ≤ p) × (C-of (now words) j < last-word) ⌝ }
+    ensures { λ _. ⌜ now (words .exit) ≡ words-after j (increment q 1 p start) (now (words .entry)) ⌝ }
 {
-    let known = words::increments_at(b, j);
-    let e = words::entry_at(b, r, q, j);
-    words::put_entry(b, r, q, j, incremented_entry(p, start, known, e));
-    receive(b, r, j, known, 1);
+    let received = words::increments_at(words, j);
+    let e = words::entry_at(words, r, q, j);
+    words::put_entry(words, r, q, j, incremented_entry(p, start, received, e));
+    receive(words, r, j, received, 1);
 }
 
 // Lines 32 to 38, for one entry of a clear.
-fn clear_entry(b: &mut [u64], r: usize, q: usize, entry: ClearEntry)
-    requires { ⌜ Row (now b) r q × (entry .card < r) ⌝ }
-    ensures { λ _. ⌜ now (b .exit) ≡ entry-cleared r q entry (now (b .entry)) ⌝ }
+fn clear_entry(words: &mut [u64], r: usize, q: usize, entry: ClearEntry)
+    requires { ⌜ RowInside (now words) r q × (entry .card < r) ⌝ }
+    ensures { λ _. ⌜ now (words .exit) ≡ entry-cleared r q entry (now (words .entry)) ⌝ }
 {
     let j = entry.card as usize;
-    let known = words::increments_at(b, j);
-    let e = words::entry_at(b, r, q, j);
-    words::put_entry(b, r, q, j, cleared_entry(entry.p, entry.c, known, e));
+    let received = words::increments_at(words, j);
+    let e = words::entry_at(words, r, q, j);
+    words::put_entry(words, r, q, j, cleared_entry(entry.p, entry.c, received, e));
 }
 
 // Lines 30 to 38, for a clear of card j on counter q. It brings no increment, so C stays.
-pub(crate) fn apply_clear(b: &mut [u64], r: usize, q: usize, j: usize, m: Message)
-    requires { ⌜ Receives (now b) r q j × (m .len ≤ 16) × CardsBelow r (take (m .len) (m .entries)) ⌝ }
-    ensures { λ _. ⌜ now (b .exit) ≡ taken-words r (counters (now (b .entry))) (layout r (counters (now (b .entry)))) j (clearing q (take (m .len) (m .entries))) (now (b .entry)) ⌝ }
+pub(crate) fn apply_clear(words: &mut [u64], r: usize, q: usize, j: usize, m: Message)
+    requires { ⌜ Receives (now words) r q j × (m .len ≤ most-cards) × CardsBelow r (take (m .len) (m .entries)) ⌝ }
+    ensures { λ _. ⌜ now (words .exit) ≡ words-after j (clearing q (take (m .len) (m .entries))) (now (words .entry)) ⌝ }
 {
     let len = m.len;
-    let known = words::increments_at(b, j);
+    let received = words::increments_at(words, j);
     let mut i: usize = 0;
     while i < len {
         let entry = m.entries[i];
-        clear_entry(b, r, q, entry);
+        clear_entry(words, r, q, entry);
         i += 1;
     }
-    receive(b, r, j, known, 0);
+    receive(words, r, j, received, 0);
 }

@@ -1,22 +1,10 @@
 // Opening a replica: a fresh one is written into the caller's words.
 use crate::words;
 ghost use mathlib.Core.Path.{_≡_};
-ghost use mathlib.Core.Bool.{_&&_};
-ghost use lib.Dec.{ltb, eqb};
 ghost use lib.ListN.{length, replicate};
 ghost use Prim.Native.Nat.{ℕ};
 ghost use Rattle.replica_model.specs.Layout.{replica-length, fresh-words};
-ghost use Rattle.replica_model.specs.Calls.{sizes-in-range, OpenOutcome, open-on};
-
-fn fits(len: usize, cards: u64, counters: u64, own: u64) -> bool
-    ensures { λ a. ⌜ a ≡ sizes-in-range cards counters && ltb own cards && eqb len (replica-length cards counters) ⌝ }
-{
-    if words::are_sizes_in_range(cards, counters) {
-        let needed = words::replica_words(words::index(cards), words::index(counters));
-        return (own < cards) & (len == needed);
-    }
-    false
-}
+ghost use Rattle.replica_model.specs.Calls.{OpenOutcome, open-on};
 
 fn zero_all(words: &mut [u64])
     ensures { λ _. ⌜ now (words .exit) ≡ replicate {A = ℕ} (length (now (words .entry))) 0 ⌝ }
@@ -40,7 +28,7 @@ fn write_fresh(words: &mut [u64], cards: u64, counters: u64, own: u64)
 pub fn open(words: &mut [u64], cards: u64, counters: u64, own: u64) -> u64
     ensures { λ a. ⌜ _≡_ {A = OpenOutcome} (record { number = a; words = now (words .exit) }) (open-on (now (words .entry)) cards counters own) ⌝ }
 {
-    if !fits(words.len(), cards, counters, own) {
+    if !words::fits(words.len(), cards, counters, own) {
         return protocol::BAD_REPLICA;
     }
     write_fresh(words, cards, counters, own);

@@ -3,10 +3,11 @@ use crate::words;
 use protocol::Entry;
 use replica_model::Reading;
 ghost use mathlib.Core.Path.{_≡_};
-ghost use mathlib.Core.Bool.{true, cond};
+ghost use mathlib.Core.Bool.{cond};
 ghost use Rattle.protocol.specs.Entry.{present};
-ghost use Rattle.replica_model.specs.Calls.{row-well-formed, no-reading, reading, read-on};
-ghost use Rattle.replica.specs.RowFacts.{Row};
+ghost use Rattle.replica_model.specs.Calls.{no-reading, reading, is-quiet, read-on};
+ghost use Rattle.replica_model.specs.ClaimTerms.{RowOf};
+ghost use Rattle.replica.specs.WordsLaws.{RowInside};
 
 fn is_present(e: Entry) -> bool
     ensures { λ a. ⌜ a ≡ present e ⌝ }
@@ -38,15 +39,15 @@ fn refused(number: u64) -> Reading
 }
 
 // Value and holders in one pass over a row that is well-formed: there n is at most p, and sixteen times MAX fits.
-fn row_reading(b: &[u64], r: usize, q: usize) -> Reading
-    requires { ⌜ Row (now b) r q × (row-well-formed (now b) q ≡ true) ⌝ }
-    ensures { λ a. ⌜ a ≡ reading (now (b .entry)) q ⌝ }
+fn row_reading(words: &[u64], r: usize, q: usize) -> Reading
+    requires { ⌜ RowInside (now words) r q × RowOf (now words) q ⌝ }
+    ensures { λ a. ⌜ a ≡ reading (now (words .entry)) q ⌝ }
 {
     let mut value: u64 = 0;
     let mut holders: u16 = 0;
     let mut j: usize = 0;
     while j < r {
-        let e = words::entry_at(b, r, q, j);
+        let e = words::entry_at(words, r, q, j);
         value = value + (e.p - e.n);
         holders = holders | (bit_of(is_present(e)) << j);
         j += 1;
@@ -77,4 +78,11 @@ pub fn read(words: &[u64], counter: u64) -> Reading
         return row_reading(words, r, q);
     }
     refused(protocol::BAD_ROW)
+}
+
+// Ruled out: a counter with a value called quiet (must-fail/quiet_inverted of crate listing), quiet by the holders.
+pub fn is_quiet(a: Reading) -> bool
+    ensures { λ quiet. ⌜ quiet ≡ is-quiet a ⌝ }
+{
+    a.value == 0
 }

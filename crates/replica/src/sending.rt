@@ -1,8 +1,11 @@
-// What count and clear share: the checks before a message is made, in document 01's order 1, 3, 2, 4, and the answer of a call that declines.
+// What count and clear share: the checks before a message is made (`making-checks` has them and their order), and the answer of a call that
+// declines.
 use crate::words;
 use replica_model::Sent;
 ghost use mathlib.Core.Path.{_≡_};
-ghost use Rattle.replica.specs.SendLaws.{no-sent, send-refusal};
+ghost use Rattle.protocol.specs.Checks.{first-failing};
+ghost use Rattle.replica_model.specs.Calls.{making-checks};
+ghost use Rattle.replica.specs.SendLaws.{no-sent};
 
 pub(crate) fn refused(number: u64) -> Sent
     ensures { λ a. ⌜ a ≡ no-sent number ⌝ }
@@ -16,7 +19,7 @@ pub(crate) fn refused(number: u64) -> Sent
 
 // The number of the first check that fails, 0 where none does.
 pub(crate) fn refusal(words: &[u64], counter: u64) -> u64
-    ensures { λ a. ⌜ a ≡ send-refusal (now (words .entry)) counter ⌝ }
+    ensures { λ a. ⌜ a ≡ first-failing (making-checks (now (words .entry)) counter) ⌝ }
 {
     if !words::is_right(words) {
         return protocol::BAD_REPLICA;

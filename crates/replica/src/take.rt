@@ -13,19 +13,24 @@ ghost use mathlib.Core.Bool.{true, cond, not};
 ghost use Prim.Native.Nat.{_≤_};
 ghost use lib.Dec.{ltb};
 ghost use Rattle.protocol.specs.Limits.{MAX};
-ghost use Rattle.wire.specs.Message.{increment-message, message-at, reads};
+ghost use Rattle.protocol.specs.Checks.{first-failing};
+ghost use Rattle.protocol.specs.Acceptance.{increment-implausible};
+ghost use Rattle.wire.specs.Message.{clear-kind, reads};
 ghost use Rattle.wire.specs.MessageParts.{header-at};
 ghost use Rattle.replica_model.specs.Layout.{cards, C-of};
-ghost use Rattle.replica_model.specs.Calls.{right, increment-implausible, TakeOutcome, taking, take-on};
-ghost use Rattle.replica.specs.Taking.{no-taken, refusal, entry-test};
+ghost use Rattle.replica_model.specs.Format.{Received, format-1};
+ghost use Rattle.replica_model.specs.Calls.{TakeOutcome, take-on};
+ghost use Rattle.replica_model.specs.ClaimTerms.{Right};
+ghost use Rattle.replica.specs.ReadParts.{increment-from};
+ghost use Rattle.replica.specs.Taking.{no-taken, entry-test, Given, shared-checks, judged};
 
-// `known` is C of the sender.
-fn is_increment_plausible(known: u64, p: u64, start: bool) -> bool
-    requires { ⌜ known ≤ MAX ⌝ }
-    ensures { λ a. ⌜ a ≡ not (increment-implausible known p start) ⌝ }
+// `received` is C of the sender.
+fn is_increment_plausible(received: u64, p: u64, start: bool) -> bool
+    requires { ⌜ received ≤ MAX ⌝ }
+    ensures { λ a. ⌜ a ≡ not (increment-implausible received 1 p start) ⌝ }
 {
-    let next = known + 1;
-    !((next < p) | (start & (p != next)) | (!start & (p == 1)))
+    let next = received + 1;
+    !((next < p) | (start & (p != next)) | (!start & (p <= 1)))
 }
 
 fn is_card_below(e: ClearEntry, r: usize) -> bool
@@ -43,12 +48,12 @@ fn is_entry_plausible(e: ClearEntry, own: usize, ours: u64, sender: usize, their
 }
 
 // C of a card, 0 where there is no such card.
-fn increments_of(b: &[u64], r: usize, j: usize) -> u64
-    requires { ⌜ (r ≡ cards (now b)) × (right (now b) ≡ true) ⌝ }
-    ensures { λ a. ⌜ a ≡ cond (ltb j r) (C-of (now (b .entry)) j) 0 ⌝ }
+fn increments_of(words: &[u64], r: usize, j: usize) -> u64
+    requires { ⌜ (r ≡ cards (now words)) × Right (now words) ⌝ }
+    ensures { λ a. ⌜ a ≡ cond (ltb j r) (C-of (now (words .entry)) j) 0 ⌝ }
 {
     if j < r {
-        return words::increments_at(b, j);
+        return words::increments_at(words, j);
     }
     0
 }
@@ -62,28 +67,28 @@ fn refused(number: u64) -> Taken
     }
 }
 
-// The checks that both kinds have, in document 01's order 3, 2, 7, 8, 9: the number of the first that fails, 0 where none does. `known` says
-// whether every entry names a card below r.
-fn refusal_of(b: &[u64], counter: u32, sender: u32, sequence: u64, known: bool) -> u64
-    requires { ⌜ right (now b) ≡ true ⌝ }
-    ensures { λ a. ⌜ a ≡ refusal (now (b .entry)) counter sender sequence known ⌝ }
+// The checks that both kinds have (`message-checks` has them and their order): the number of the first that fails, 0 where none does, for every
+// message of this counter, sender and sequence. `entries_below` says whether every entry names a card below r.
+fn refusal_of(words: &[u64], counter: u32, sender: u32, sequence: u64, entries_below: bool) -> u64
+    requires { ⌜ Right (now words) ⌝ }
+    ensures { λ a. ⌜ ((m : Received) → Given (cards (now (words .entry))) m counter sender sequence «entries_below» → a ≡ first-failing (shared-checks (now (words .entry)) m)) ⌝ }
 {
-    if words::counters_of(b) <= counter as u64 {
+    if words::counters_of(words) <= counter as u64 {
         return protocol::BAD_COUNTER;
     }
-    let r = words::cards_of(b);
-    if !words::is_row_well_formed(b, r, counter as usize) {
+    let r = words::cards_of(words);
+    if !words::is_row_well_formed(words, r, counter as usize) {
         return protocol::BAD_ROW;
     }
     let j = sender as usize;
-    if !((j < r) & (j != words::own_card(b)) & known) {
+    if !((j < r) & (j != words::own_card(words)) & entries_below) {
         return protocol::BAD_CARD;
     }
-    let received = words::messages_at(b, r, j);
-    if sequence <= received {
+    let messages = words::messages_at(words, r, j);
+    if sequence <= messages {
         return protocol::REPEATED;
     }
-    if received + 1 < sequence {
+    if messages + 1 < sequence {
         return protocol::EARLY;
     }
     0
@@ -91,8 +96,8 @@ fn refusal_of(b: &[u64], counter: u32, sender: u32, sequence: u64, known: bool) 
 
 // An increment that reads, to a replica that is right. No word is written before the last check.
 fn take_increment(words: &mut [u64], header: Header, body: Increment) -> Taken
-    requires { ⌜ (right (now words) ≡ true) × (1 ≤ body .p) ⌝ }
-    ensures { λ a. ⌜ _≡_ {A = TakeOutcome} (record { answer = a; words = now (words .exit) }) (taking (now (words .entry)) (increment-message (header .sender) (header .sequence) (header .counter) (body .p) (body .start))) ⌝ }
+    requires { ⌜ Right (now words) × (1 ≤ body .p) ⌝ }
+    ensures { λ a. ⌜ _≡_ {A = TakeOutcome} (record { answer = a; words = now (words .exit) }) (judged (now (words .entry)) (increment-from header body)) ⌝ }
 {
     let number = refusal_of(words, header.counter, header.sender, header.sequence, true);
     if number != 0 {
@@ -100,8 +105,8 @@ fn take_increment(words: &mut [u64], header: Header, body: Increment) -> Taken
     }
     let sender = header.sender as usize;
     let start = body.start == 1;
-    let known = words::increments_at(words, sender);
-    if !is_increment_plausible(known, body.p, start) {
+    let received = words::increments_at(words, sender);
+    if !is_increment_plausible(received, body.p, start) {
         return refused(protocol::IMPLAUSIBLE);
     }
     let r = words::cards_of(words);
@@ -114,8 +119,8 @@ fn take_increment(words: &mut [u64], header: Header, body: Increment) -> Taken
 
 // A clear, likewise. The message is held whole, and made and judged in one loop: a function that it is passed to or returned from copies it.
 fn take_clear(words: &mut [u64], message: &[u8], header: Header) -> Taken
-    requires { ⌜ (right (now words) ≡ true) × (reads (now message) ≡ true) × (header ≡ header-at (now message) 0) × (header .kind ≡ 2) ⌝ }
-    ensures { λ a. ⌜ _≡_ {A = TakeOutcome} (record { answer = a; words = now (words .exit) }) (taking (now (words .entry)) (message-at (now (message .entry)))) ⌝ }
+    requires { ⌜ Right (now words) × (reads (now message) ≡ true) × (header ≡ header-at (now message) 0) × (header .kind ≡ clear-kind) ⌝ }
+    ensures { λ a. ⌜ _≡_ {A = TakeOutcome} (record { answer = a; words = now (words .exit) }) (judged (now (words .entry)) (format-1 .received (now (message .entry)))) ⌝ }
 {
     let r = words::cards_of(words);
     let own = words::own_card(words);
@@ -133,9 +138,9 @@ fn take_clear(words: &mut [u64], message: &[u8], header: Header) -> Taken
         p: 0,
         start: 0,
         len,
-        entries: [effect::NO_ENTRY; 16],
+        entries: [wire::NO_ENTRY; wire::MOST_ENTRIES],
     };
-    let mut below = true;
+    let mut entries_below = true;
     let mut plausible = true;
     let mut place = count.behind;
     let mut i: usize = 0;
@@ -143,12 +148,18 @@ fn take_clear(words: &mut [u64], message: &[u8], header: Header) -> Taken
         let read = reader::entry_from(message, place);
         let e = read.entry;
         m.entries[i] = e;
-        below = below & is_card_below(e, r);
+        entries_below = entries_below & is_card_below(e, r);
         plausible = plausible & is_entry_plausible(e, own, ours, sender, theirs);
         place = read.behind;
         i += 1;
     }
-    let refusal = refusal_of(words, header.counter, header.sender, header.sequence, below);
+    let refusal = refusal_of(
+        words,
+        header.counter,
+        header.sender,
+        header.sequence,
+        entries_below,
+    );
     if refusal != 0 {
         return refused(refusal);
     }

@@ -1,19 +1,21 @@
 // Where each word of a replica stands, and whether the replica and one of its rows are well-formed: the only file of the code that knows the
-// layout (specs/Layout.antt). Its functions require what the public calls have tested.
+// layout (replica_model/specs/Layout.antt). Its functions require what the public calls have tested.
 use protocol::Entry;
 ghost use mathlib.Core.Path.{_≡_};
 ghost use Prim.Native.Nat.{_+_, _*_, _≤_, _<_};
 ghost use lib.ListN.{length};
 ghost use lib.Dec.{leb};
-ghost use Rattle.replica_model.specs.Layout.{cards, counters, own-card, head, replica-length, at-C, at-N, at-entry, C-of, N-of, entry-from, entry-of, set-C, set-N, set-three, set-entry};
-ghost use Rattle.replica_model.specs.Calls.{sizes-in-range, right, entry-well-formed, card-well-formed, row-well-formed};
-ghost use Rattle.replica.specs.RowFacts.{Row};
+ghost use Rattle.protocol.specs.Limits.{most-cards, most-counters};
+ghost use Rattle.protocol.specs.Acceptance.{entry-well-formed};
+ghost use Rattle.replica_model.specs.Layout.{cards, counters, own-card, replica-length, at-entry, C-of, N-of, entry-from, entry-of, set-C, set-N, set-three, set-entry};
+ghost use Rattle.replica_model.specs.Calls.{sizes-in-range, replica-fits, right, row-well-formed};
+ghost use Rattle.replica.specs.WordsLaws.{HeadInside, CInside, NInside, RowInside, card-formed, with-head};
 
 // The words before C: r, k and the own card.
-const HEAD: usize = 3;
+pub const HEAD: usize = 3;
 
 // The words of an entry: p, n and c.
-const ENTRY: usize = 3;
+pub const ENTRY: usize = 3;
 
 pub(crate) fn index(word: u64) -> usize
     ensures { λ a. ⌜ a ≡ word ⌝ }
@@ -23,7 +25,7 @@ pub(crate) fn index(word: u64) -> usize
 
 // How long a replica of r cards and k counters is.
 pub fn replica_words(r: usize, k: usize) -> usize
-    requires { ⌜ (r ≤ 16) × (k ≤ 64) ⌝ }
+    requires { ⌜ (r ≤ most-cards) × (k ≤ most-counters) ⌝ }
     ensures { λ a. ⌜ a ≡ replica-length r k ⌝ }
 {
     HEAD + 2 * r + ENTRY * (r * k)
@@ -37,127 +39,131 @@ pub fn are_sizes_in_range(r: u64, k: u64) -> bool
 
 // The first three words.
 
-pub(crate) fn cards_of(b: &[u64]) -> usize
-    requires { ⌜ head ≤ length (now b) ⌝ }
-    ensures { λ a. ⌜ a ≡ cards (now (b .entry)) ⌝ }
+pub(crate) fn cards_of(words: &[u64]) -> usize
+    requires { ⌜ HeadInside (now words) ⌝ }
+    ensures { λ a. ⌜ a ≡ cards (now (words .entry)) ⌝ }
 {
-    index(b[0])
+    index(words[0])
 }
 
-pub(crate) fn counters_of(b: &[u64]) -> u64
-    requires { ⌜ head ≤ length (now b) ⌝ }
-    ensures { λ a. ⌜ a ≡ counters (now (b .entry)) ⌝ }
+pub(crate) fn counters_of(words: &[u64]) -> u64
+    requires { ⌜ HeadInside (now words) ⌝ }
+    ensures { λ a. ⌜ a ≡ counters (now (words .entry)) ⌝ }
 {
-    b[1]
+    words[1]
 }
 
-pub(crate) fn own_card(b: &[u64]) -> usize
-    requires { ⌜ head ≤ length (now b) ⌝ }
-    ensures { λ a. ⌜ a ≡ own-card (now (b .entry)) ⌝ }
+pub(crate) fn own_card(words: &[u64]) -> usize
+    requires { ⌜ HeadInside (now words) ⌝ }
+    ensures { λ a. ⌜ a ≡ own-card (now (words .entry)) ⌝ }
 {
-    index(b[2])
+    index(words[2])
 }
 
-pub(crate) fn set_head(b: &mut [u64], r: u64, k: u64, own: u64)
-    requires { ⌜ head ≤ length (now b) ⌝ }
-    ensures { λ _. ⌜ now (b .exit) ≡ set-three (now (b .entry)) 0 r k own ⌝ }
+pub(crate) fn set_head(words: &mut [u64], r: u64, k: u64, own: u64)
+    requires { ⌜ HeadInside (now words) ⌝ }
+    ensures { λ _. ⌜ now (words .exit) ≡ with-head r k own (now (words .entry)) ⌝ }
 {
-    b[0] = r;
-    b[1] = k;
-    b[2] = own;
+    words[0] = r;
+    words[1] = k;
+    words[2] = own;
 }
 
-// No length is worked out before r and k are known to be small, so that no product wraps.
-pub(crate) fn is_right(b: &[u64]) -> bool
-    ensures { λ a. ⌜ a ≡ right (now (b .entry)) ⌝ }
+// Whether words of this length hold a replica of these sizes. No length is worked out before r and k are known to be small, so that no product
+// wraps.
+pub(crate) fn fits(len: usize, r: u64, k: u64, own: u64) -> bool
+    ensures { λ a. ⌜ a ≡ replica-fits r k own len ⌝ }
 {
-    if b.len() < HEAD {
-        return false;
-    }
-    let r = cards_of(b);
-    let k = counters_of(b);
-    let own = own_card(b);
-    if are_sizes_in_range(r as u64, k) {
-        return (own < r) & (b.len() == replica_words(r, index(k)));
+    if are_sizes_in_range(r, k) {
+        return (own < r) & (len == replica_words(index(r), index(k)));
     }
     false
 }
 
+pub(crate) fn is_right(words: &[u64]) -> bool
+    ensures { λ a. ⌜ a ≡ right (now (words .entry)) ⌝ }
+{
+    if words.len() < HEAD {
+        return false;
+    }
+    fits(words.len(), words[0], words[1], words[2])
+}
+
 // C[j] and N[j].
 
-pub(crate) fn increments_at(b: &[u64], j: usize) -> u64
-    requires { ⌜ at-C j < length (now b) ⌝ }
-    ensures { λ a. ⌜ a ≡ C-of (now (b .entry)) j ⌝ }
+pub(crate) fn increments_at(words: &[u64], j: usize) -> u64
+    requires { ⌜ CInside (now words) j ⌝ }
+    ensures { λ a. ⌜ a ≡ C-of (now (words .entry)) j ⌝ }
 {
-    b[HEAD + j]
+    words[HEAD + j]
 }
 
-pub fn messages_at(b: &[u64], r: usize, j: usize) -> u64
-    requires { ⌜ at-N r j < length (now b) ⌝ }
-    ensures { λ a. ⌜ a ≡ N-of r (now (b .entry)) j ⌝ }
+pub fn messages_at(words: &[u64], r: usize, j: usize) -> u64
+    requires { ⌜ NInside r (now words) j ⌝ }
+    ensures { λ a. ⌜ a ≡ N-of r (now (words .entry)) j ⌝ }
 {
-    b[HEAD + r + j]
+    words[HEAD + r + j]
 }
 
-pub(crate) fn set_increments(b: &mut [u64], j: usize, value: u64)
-    requires { ⌜ at-C j < length (now b) ⌝ }
-    ensures { λ _. ⌜ now (b .exit) ≡ set-C j value (now (b .entry)) ⌝ }
+pub(crate) fn set_increments(words: &mut [u64], j: usize, value: u64)
+    requires { ⌜ CInside (now words) j ⌝ }
+    ensures { λ _. ⌜ now (words .exit) ≡ set-C j value (now (words .entry)) ⌝ }
 {
-    b[HEAD + j] = value;
+    words[HEAD + j] = value;
 }
 
-pub(crate) fn set_messages(b: &mut [u64], r: usize, j: usize, value: u64)
-    requires { ⌜ at-N r j < length (now b) ⌝ }
-    ensures { λ _. ⌜ now (b .exit) ≡ set-N r j value (now (b .entry)) ⌝ }
+pub(crate) fn set_messages(words: &mut [u64], r: usize, j: usize, value: u64)
+    requires { ⌜ NInside r (now words) j ⌝ }
+    ensures { λ _. ⌜ now (words .exit) ≡ set-N r j value (now (words .entry)) ⌝ }
 {
-    b[HEAD + r + j] = value;
+    words[HEAD + r + j] = value;
 }
 
 // The entry of counter q for card j: where it stands, its three words, and others there.
 
 fn entry_place(r: usize, q: usize, j: usize) -> usize
-    requires { ⌜ (q * r ≤ 1024) × (r ≤ 16) × (j < r) ⌝ }
+    requires { ⌜ (q * r ≤ most-counters * most-cards) × (r ≤ most-cards) × (j < r) ⌝ }
     ensures { λ a. ⌜ a ≡ at-entry r q j ⌝ }
 {
     HEAD + 2 * r + ENTRY * (q * r + j)
 }
 
-fn entry_from(b: &[u64], at: usize) -> Entry
-    requires { ⌜ at + 2 < length (now b) ⌝ }
-    ensures { λ a. ⌜ a ≡ entry-from (now (b .entry)) at ⌝ }
+fn entry_from(words: &[u64], at: usize) -> Entry
+    requires { ⌜ at + 2 < length (now words) ⌝ }
+    ensures { λ a. ⌜ a ≡ entry-from (now (words .entry)) at ⌝ }
 {
     Entry {
-        p: b[at],
-        n: b[at + 1],
-        c: b[at + 2],
+        p: words[at],
+        n: words[at + 1],
+        c: words[at + 2],
     }
 }
 
-fn put_three(b: &mut [u64], at: usize, e: Entry)
-    requires { ⌜ at + 2 < length (now b) ⌝ }
-    ensures { λ _. ⌜ now (b .exit) ≡ set-three (now (b .entry)) at (e .p) (e .n) (e .c) ⌝ }
+fn put_three(words: &mut [u64], at: usize, e: Entry)
+    requires { ⌜ at + 2 < length (now words) ⌝ }
+    ensures { λ _. ⌜ now (words .exit) ≡ set-three (now (words .entry)) at (e .p) (e .n) (e .c) ⌝ }
 {
-    b[at] = e.p;
-    b[at + 1] = e.n;
-    b[at + 2] = e.c;
+    words[at] = e.p;
+    words[at + 1] = e.n;
+    words[at + 2] = e.c;
 }
 
-pub(crate) fn entry_at(b: &[u64], r: usize, q: usize, j: usize) -> Entry
-    requires { ⌜ Row (now b) r q × (j < r) ⌝ }
-    ensures { λ a. ⌜ a ≡ entry-of r (now (b .entry)) q j ⌝ }
+pub(crate) fn entry_at(words: &[u64], r: usize, q: usize, j: usize) -> Entry
+    requires { ⌜ RowInside (now words) r q × (j < r) ⌝ }
+    ensures { λ a. ⌜ a ≡ entry-of r (now (words .entry)) q j ⌝ }
 {
-    entry_from(b, entry_place(r, q, j))
+    entry_from(words, entry_place(r, q, j))
 }
 
-pub(crate) fn put_entry(b: &mut [u64], r: usize, q: usize, j: usize, e: Entry)
-    requires { ⌜ Row (now b) r q × (j < r) ⌝ }
-    ensures { λ _. ⌜ now (b .exit) ≡ set-entry r q j e (now (b .entry)) ⌝ }
+pub(crate) fn put_entry(words: &mut [u64], r: usize, q: usize, j: usize, e: Entry)
+    requires { ⌜ RowInside (now words) r q × (j < r) ⌝ }
+    ensures { λ _. ⌜ now (words .exit) ≡ set-entry r q j e (now (words .entry)) ⌝ }
 {
     let at = entry_place(r, q, j);
-    put_three(b, at, e);
+    put_three(words, at, e);
 }
 
-// Whether a row is well-formed (document 01's 'sound'). Each test returns by itself: compiled to branches, that is faster than tests joined by `&`.
+// Whether a row is well-formed (SPECIFICATION 3). Each test returns by itself: compiled to branches, that is faster than tests joined by `&`.
 
 fn is_entry_well_formed(e: Entry) -> bool
     ensures { λ a. ⌜ a ≡ entry-well-formed e ⌝ }
@@ -174,42 +180,42 @@ fn is_entry_well_formed(e: Entry) -> bool
     e.n <= e.p
 }
 
-fn is_card_well_formed(b: &[u64], r: usize, q: usize, j: usize) -> bool
-    requires { ⌜ Row (now b) r q × (j < r) ⌝ }
-    ensures { λ a. ⌜ a ≡ card-well-formed r (now (b .entry)) q j ⌝ }
+fn is_card_well_formed(words: &[u64], r: usize, q: usize, j: usize) -> bool
+    requires { ⌜ RowInside (now words) r q × (j < r) ⌝ }
+    ensures { λ a. ⌜ a ≡ card-formed r (now (words .entry)) q j ⌝ }
 {
-    let increments = increments_at(b, j);
-    let messages = messages_at(b, r, j);
+    let increments = increments_at(words, j);
+    let messages = messages_at(words, r, j);
     if messages < increments {
         return false;
     }
     if protocol::MAX < messages {
         return false;
     }
-    let e = entry_at(b, r, q, j);
+    let e = entry_at(words, r, q, j);
     is_entry_well_formed(e)
 }
 
 // The own entry's c is at most the own C.
-fn is_own_entry_counted(b: &[u64], r: usize, q: usize) -> bool
-    requires { ⌜ Row (now b) r q ⌝ }
-    ensures { λ a. ⌜ a ≡ leb (entry-of r (now (b .entry)) q (own-card (now (b .entry))) .c) (C-of (now (b .entry)) (own-card (now (b .entry)))) ⌝ }
+fn is_own_entry_counted(words: &[u64], r: usize, q: usize) -> bool
+    requires { ⌜ RowInside (now words) r q ⌝ }
+    ensures { λ a. ⌜ a ≡ leb (entry-of r (now (words .entry)) q (own-card (now (words .entry))) .c) (C-of (now (words .entry)) (own-card (now (words .entry)))) ⌝ }
 {
-    let own = own_card(b);
-    let e = entry_at(b, r, q, own);
-    e.c <= increments_at(b, own)
+    let own = own_card(words);
+    let e = entry_at(words, r, q, own);
+    e.c <= increments_at(words, own)
 }
 
-pub(crate) fn is_row_well_formed(b: &[u64], r: usize, q: usize) -> bool
-    requires { ⌜ Row (now b) r q ⌝ }
-    ensures { λ a. ⌜ a ≡ row-well-formed (now (b .entry)) q ⌝ }
+pub(crate) fn is_row_well_formed(words: &[u64], r: usize, q: usize) -> bool
+    requires { ⌜ RowInside (now words) r q ⌝ }
+    ensures { λ a. ⌜ a ≡ row-well-formed (now (words .entry)) q ⌝ }
 {
     let mut j: usize = 0;
     while j < r {
-        if !is_card_well_formed(b, r, q, j) {
+        if !is_card_well_formed(words, r, q, j) {
             return false;
         }
         j += 1;
     }
-    is_own_entry_counted(b, r, q)
+    is_own_entry_counted(words, r, q)
 }

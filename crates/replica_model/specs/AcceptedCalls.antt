@@ -6,25 +6,31 @@ use mathlib.Core.Logic.{_≢_}
 use mathlib.Core.List.{List, [], _∷_}
 use mathlib.Core.Bool.{true, cond}
 use native.Mathlib.Omega.{arith}
+use lib.ListN.{length}
+use lib.Dec.{leb}
 use borrow.Author.Tests.{ltb-true, lt-ltb, eqb-false, not-true}
-use Rattle.protocol.specs.Limits.{MAX}
+use Rattle.protocol.specs.Limits.{MAX, short-output}
 use Rattle.protocol.specs.Tables.{sum-cong, bits}
 use Rattle.protocol.specs.declared.Entry.{Entry}
 use Rattle.protocol.specs.Entry.{present}
 use Rattle.protocol.specs.declared.ClearEntry.{ClearEntry}
 use Rattle.protocol.specs.Chassis.{Message, increment, clearing, count-message, clear-message, read-value, read-holders, counter-of}
 use Rattle.protocol.specs.StoreLaws.{CardsBelow, InLimits, shown, taken-words}
-use Rattle.wire.specs.Message.{message-at}
-use Rattle.replica_model.specs.Layout.{cards, counters, own-card, C-of, N-of, entry-of}
-use Rattle.replica_model.specs.LayoutLaws.{layout}
-use Rattle.replica_model.specs.Calls.{right, row-well-formed, reading, read-on, content, count-on, clear-on, take-on}
-use Rattle.replica_model.specs.ClaimTerms.{Right, Gives, send-checks, holders, count-of, clear-of, Performed, OnlyMoves, Keeps, Isolates}
-use Rattle.replica_model.specs.RowLaws.{right-facts, right-from, row-facts, row-from, count-cong}
-use Rattle.replica_model.specs.Exact.{count-decided, clear-decided, take-decided}
+use Rattle.protocol.specs.Checks.{AllPass, Gives, or-else}
+use Rattle.protocol.specs.ChecksLaws.{all-first, gives-passes}
+use Rattle.protocol.specs.AcceptanceLaws.{count-cong}
+use Rattle.wire.specs.Message.{message-at, increment-length, clear-length}
+use Rattle.replica_model.specs.Layout.{cards, counters, own-card, C-of, N-of, entry-of, layout}
+use Rattle.replica_model.specs.Calls.{right, row-well-formed, reading, read-on, count-on, clear-on, take-on, send-checks, holders, count-of, clear-of, words-after, making-checks}
+use Rattle.replica_model.specs.ClaimTerms.{Right, Performed, OnlyMoves, Keeps, Isolates}
+use Rattle.replica_model.specs.RowLaws.{right-facts, right-from, row-facts, row-from}
+use Rattle.replica_model.specs.CallsLaws.{count-decided, clear-decided, take-decided}
 use Rattle.replica_model.specs.WellFormedKept.{FittingEntries, Fitting}
 use Rattle.replica_model.specs.Performed.{performed, only-moves, right-kept, row-kept}
 use Rattle.replica_model.specs.Senders.{Sending, count-fits, clear-fits}
-use Rattle.replica_model.specs.Receivers.{taking-facts, content-counter}
+use Rattle.replica_model.specs.Receivers.{taking-facts, take-passes, content-counter}
+use Rattle.replica_model.specs.LayoutLaws.{same-cards, same-counters}
+use Rattle.replica_model.specs.Format.{content, format-1}
 
 -- card s's message m on counter q, taken by the replica b
 pub record Move (b : List ℕ) (q s : ℕ) (m : Message) (after : List ℕ) : Type 0 where
@@ -47,7 +53,7 @@ in-limits r own s k C (increment q w p start) l f = l
 in-limits r own s k C (clearing q ts) l f = (l, known-cards r own C ts f)
 
 moved : (b : List ℕ) (q s : ℕ) (m : Message) → Right b → counter-of m ≡ q → q < counters b → s < cards b → N-of (cards b) b s < MAX
-    → Fitting (cards b) (own-card b) s (C-of b) m → Move b q s m (taken-words (cards b) (counters b) (layout (cards b) (counters b)) s m b)
+    → Fitting (cards b) (own-card b) s (C-of b) m → Move b q s m (words-after s m b)
 moved b q s m f c l hs n fit = record {
   before = f;
   counter = c;
@@ -64,8 +70,11 @@ sending-from b q h l w d =
     let k = row-facts b q w in
     record { right = r; counter = l; row = k; more = let n = k .N≤MAX (own-card b) (r .own) in omega arith }
 
-pub sending-facts : (b : List ℕ) (q : ℕ) (out : List ℕ) (size : ℕ) → Gives (send-checks b q out size) 0 → Sending b q
-sending-facts b q out size (h₁, (h₃, (h₂, (h₄, _)))) = sending-from b q h₁ (ltb-true q (counters b) h₃) h₂ (eqb-false _ MAX (not-true _ h₄))
+pub sending-facts : (b : List ℕ) (q : ℕ) → AllPass (making-checks b q) → Sending b q
+sending-facts b q (h₁, (h₃, (h₂, (h₄, _)))) = sending-from b q h₁ (ltb-true q (counters b) h₃) h₂ (eqb-false _ MAX (not-true _ h₄))
+
+pub sent-facts : (b : List ℕ) (q : ℕ) (out : List ℕ) (size : ℕ) → Gives (send-checks b q out size) 0 → Sending b q
+sent-facts b q out size g = sending-facts b q (all-first (making-checks b q) (or-else (leb size (length out)) short-output ∷ []) (gives-passes (send-checks b q out size) refl g))
 
 -- ---- the calls
 
@@ -73,23 +82,23 @@ pub count-move : (b : List ℕ) (q : ℕ) (out : List ℕ) → count-on b q out 
 unfolding count-message
 count-move b q out h =
     let d = count-decided b q out in
-    let k = sending-facts b q out 36 (d .exact 0 .0 h) in
+    let k = sent-facts b q out increment-length (d .exact 0 .0 h) in
     rw (d .accepted h) (moved b q (own-card b) (count-of b q) (k .right) refl (k .counter) (k .right .own) (k .more) (count-fits b q k))
 
 pub clear-move : (b : List ℕ) (q : ℕ) (out : List ℕ) → clear-on b q out .answer .number ≡ 0 → Move b q (own-card b) (clear-of b q) (clear-on b q out .words)
 unfolding clear-message
 clear-move b q out h =
     let d = clear-decided b q out in
-    let k = sending-facts b q out (28 + 20 * holders b q) (d .exact 0 .0 h) in
+    let k = sent-facts b q out (clear-length (holders b q)) (d .exact 0 .0 h) in
     rw (d .accepted h) (moved b q (own-card b) (clear-of b q) (k .right) refl (k .counter) (k .right .own) (k .more) (clear-fits b q k))
 
 pub take-move : (b bytes : List ℕ) → take-on b bytes .answer .number ≡ 0
     → let m = message-at bytes in Move b (m .counter) (m .sender) (content m) (take-on b bytes .words)
 take-move b bytes h =
     let m = message-at bytes in
-    let d = take-decided b bytes in
-    let k = taking-facts b bytes (d .exact 0 .0 h) in
-    rw (d .accepted h) (moved b (m .counter) (m .sender) (content m) (k .right) (content-counter m) (k .counter) (k .sender) (k .more) (k .fits))
+    let d = take-decided format-1 b bytes in
+    let k = taking-facts b bytes (take-passes b bytes (d .exact 0 .0 h)) in
+    rw (d .accepted h) (moved b (m .counter) (m .sender) (content m) (k .right) (content-counter m) (rw (content-counter m) at (k .counter)) (k .sender) (k .more) (k .fits))
 
 -- ---- what every move keeps
 
@@ -121,8 +130,8 @@ module _ (b : List ℕ) (q s : ℕ) (m : Message) (after : List ℕ) (k : Move b
   move-isolates = record {
     rows-stay = stay;
     reads-stay = λ q′ l d h.
-        rw (right-from b (k .before), move-keeps .right-kept (right-from b (k .before)), k .performed .same-counters, lt-ltb q′ (counters b) l, h, move-keeps .rows-kept q′ l h)
-        (reading-alike b after q′ (k .performed .same-cards) (λ j y. stay q′ j l y d));
+        rw (right-from b (k .before), move-keeps .right-kept (right-from b (k .before)), same-counters b after (k .performed .same-head), lt-ltb q′ (counters b) l, h, move-keeps .rows-kept q′ l h)
+        (reading-alike b after q′ (same-cards b after (k .performed .same-head)) (λ j y. stay q′ j l y d));
   }
     where
       stay : (q′ j : ℕ) → q′ < counters b → j < cards b → q′ ≢ q → entry-of (cards b) after q′ j ≡ entry-of (cards b) b q′ j

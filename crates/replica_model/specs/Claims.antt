@@ -11,17 +11,20 @@ use Rattle.protocol.specs.Limits.{MAX, unreadable, repeated, early}
 use Rattle.protocol.specs.Cases.{by-place}
 use Rattle.protocol.specs.Chassis.{count-message, clear-message}
 use Rattle.protocol.specs.StoreLaws.{shown}
+use Rattle.protocol.specs.Checks.{Decided}
 use Rattle.wire.specs.Message as form
-use Rattle.wire.specs.Message.{increment-message, message-at, message-bytes, over}
+use Rattle.wire.specs.Message.{increment-message, message-at, message-bytes, over, increment-length, clear-length}
 use Rattle.replica_model.specs.Layout.{cards, counters, own-card, replica-length, N-of, entry-of, fresh-words}
-use Rattle.replica_model.specs.Calls.{right, row-well-formed, open-on, no-reading, reading, read-on, not-sent, count-on, clear-on, not-taken, content, take-on}
-use Rattle.replica_model.specs.ClaimTerms.{OpenSizes, Right, RowOf, Decided, open-checks, read-checks, count-checks, clear-checks, take-checks, holders, count-of, clear-of, sent-as, sent-with, taken-with, Performed, OnlyMoves, Keeps, Isolates, Writable, Addressed}
+use Rattle.replica_model.specs.Calls.{right, row-well-formed, open-on, no-reading, reading, read-on, not-sent, count-on, clear-on, not-taken, take-on, open-checks, read-checks, take-checks, holders, count-of, clear-of, sent-with, taken-with, send-checks}
+use Rattle.replica_model.specs.ClaimTerms.{Right, RowOf, sent-as, Performed, OnlyMoves, Keeps, Isolates, Writable, Addressed, Sizes}
 use Rattle.replica_model.specs.RowLaws.{right-facts, right-from, row-facts, row-from}
-use Rattle.replica_model.specs.Exact.{present-length, open-decided, read-decided, count-decided, clear-decided, take-decided}
+use Rattle.replica_model.specs.PresentLaws.{present-length}
+use Rattle.replica_model.specs.CallsLaws.{open-decided, read-decided, count-decided, clear-decided, take-decided}
 use Rattle.replica_model.specs.FreshReplica.{fresh-right, fresh-row, sizes-opened, fresh-read, fresh-count, fresh-clear, fresh-take}
 use Rattle.replica_model.specs.Senders.{count-writable, clear-writable}
 use Rattle.replica_model.specs.SequenceLaws.{again-refused, old-refused, early-refused}
 use Rattle.replica_model.specs.AcceptedCalls.{sending-from, count-move, clear-move, take-move, move-keeps, move-moves, move-isolates, unmoved-keeps, unmoved-isolates}
+use Rattle.replica_model.specs.Format.{content, format-1}
 
 -- ---- WELL-FORMED, in plain numbers
 
@@ -36,10 +39,10 @@ row-well-formed-is b q = (row-facts b q, row-from b q)
 -- ---- WELL-FORMEDNESS IS KEPT
 
 -- A fresh replica is right and well-formed in every row.
-pub fresh-well-formed : (r k own : ℕ) → OpenSizes r k own
+pub fresh-well-formed : (r k own : ℕ) → Sizes r k → own < r
     → (right (fresh-words r k own) ≡ true) × ((q : ℕ) → q < k → row-well-formed (fresh-words r k own) q ≡ true)
-fresh-well-formed r k own s =
-    (right-from (fresh-words r k own) (fresh-right r k own s), λ q hq. row-from (fresh-words r k own) q (fresh-row r k own q (s .own-below) hq))
+fresh-well-formed r k own s o =
+    (right-from (fresh-words r k own) (fresh-right r k own s o), λ q hq. row-from (fresh-words r k own) q (fresh-row r k own q o hq))
 
 -- Whatever count answers, a right replica stays right and every well-formed row stays well-formed: the counter's own and the others.
 pub count-keeps : (b : List ℕ) (q : ℕ) (out : List ℕ) → Keeps b (count-on b q out .words)
@@ -60,7 +63,7 @@ pub take-keeps : (b bytes : List ℕ) → Keeps b (take-on b bytes .words)
 take-keeps b bytes =
     by-place (take-on b bytes .answer .number) 0
     (λ h. move-keeps b _ _ _ _ (take-move b bytes h))
-    (λ d. rw (take-decided b bytes .refused d) (unmoved-keeps b))
+    (λ d. rw (take-decided format-1 b bytes .refused d) (unmoved-keeps b))
 
 -- ---- ALGORITHM 1
 
@@ -79,17 +82,17 @@ take-performs b bytes h = take-move b bytes h .performed
 
 -- The message that an accepted count sends is the one that the generator returns, numbered N + 1, in 36 bytes; the output behind it stays.
 pub count-sends : (b : List ℕ) (q : ℕ) (out : List ℕ) → count-on b q out .answer .number ≡ 0
-    → (count-on b q out .answer ≡ record { number = 0; sequence = N-of (cards b) b (own-card b) + 1; length = 36 })
+    → (count-on b q out .answer ≡ record { number = 0; sequence = N-of (cards b) b (own-card b) + 1; length = increment-length })
     × (count-on b q out .out ≡ over (message-bytes (sent-as b (count-of b q))) out)
 unfolding count-message increment-message
 count-sends b q out h = rw (count-decided b q out .accepted h) (refl, refl)
 
 -- The message that an accepted clear sends is the one that the generator returns, numbered N + 1, in 28 bytes and 20 for each present entry; the output behind it stays.
 pub clear-sends : (b : List ℕ) (q : ℕ) (out : List ℕ) → clear-on b q out .answer .number ≡ 0
-    → (clear-on b q out .answer ≡ record { number = 0; sequence = N-of (cards b) b (own-card b) + 1; length = 28 + 20 * holders b q })
+    → (clear-on b q out .answer ≡ record { number = 0; sequence = N-of (cards b) b (own-card b) + 1; length = clear-length (holders b q) })
     × (clear-on b q out .out ≡ over (message-bytes (sent-as b (clear-of b q))) out)
 unfolding clear-message form.clear-message shown
-clear-sends b q out h = rw (clear-decided b q out .accepted h) (rw (present-length (cards b) (entry-of (cards b) b q)), refl)
+clear-sends b q out h = rw (clear-decided b q out .accepted h) (rw (present-length (entry-of (cards b) b q) (cards b)), refl)
 
 -- After an accepted count the own N and the own C are one more; no other C or N moves, and no entry but the own one of the counter.
 pub count-moves : (b : List ℕ) (q : ℕ) (out : List ℕ) → count-on b q out .answer .number ≡ 0 → OnlyMoves b (own-card b) (count-of b q) (count-on b q out .words)
@@ -108,12 +111,12 @@ take-moves b bytes h = move-moves b _ _ _ _ (take-move b bytes h)
 
 -- Where count makes a message, it is in range, it is 36 bytes long, and its bytes read as it: a message of 6 cannot come out of count.
 pub count-message-writable : (b : List ℕ) (q : ℕ) → right b ≡ true → q < counters b → row-well-formed b q ≡ true → N-of (cards b) b (own-card b) ≢ MAX
-    → Writable (sent-as b (count-of b q)) 36
+    → Writable (sent-as b (count-of b q)) increment-length
 count-message-writable b q h l w d = count-writable b q (sending-from b q h l w d)
 
 -- Where clear makes a message, it is in range, it is 28 bytes long and 20 for each present entry, 348 at most, and its bytes read as it: nor out of clear.
 pub clear-message-writable : (b : List ℕ) (q : ℕ) → right b ≡ true → q < counters b → row-well-formed b q ≡ true → N-of (cards b) b (own-card b) ≢ MAX
-    → Writable (sent-as b (clear-of b q)) (28 + 20 * holders b q)
+    → Writable (sent-as b (clear-of b q)) (clear-length (holders b q))
 clear-message-writable b q h l w d = clear-writable b q (sending-from b q h l w d)
 
 -- Number 6 is never given by count or clear.
@@ -138,18 +141,18 @@ read-exact = read-decided
 
 -- Count gives 1, 3, 2, 4, 5 in that order or sends Algorithm 1's increment, and is exact.
 pub count-exact : (b : List ℕ) (q : ℕ) (out : List ℕ)
-    → Decided (λ o. o .answer .number) (λ n. not-sent n b out) (count-checks b q out) (sent-with b out (count-of b q)) (count-on b q out)
+    → Decided (λ o. o .answer .number) (λ n. not-sent n b out) (send-checks b q out increment-length) (sent-with format-1 b out (count-of b q)) (count-on b q out)
 count-exact = count-decided
 
 -- Clear gives 1, 3, 2, 4, 5 in that order or sends Algorithm 1's clear, and is exact.
 pub clear-exact : (b : List ℕ) (q : ℕ) (out : List ℕ)
-    → Decided (λ o. o .answer .number) (λ n. not-sent n b out) (clear-checks b q out) (sent-with b out (clear-of b q)) (clear-on b q out)
+    → Decided (λ o. o .answer .number) (λ n. not-sent n b out) (send-checks b q out (clear-length (holders b q))) (sent-with format-1 b out (clear-of b q)) (clear-on b q out)
 clear-exact = clear-decided
 
 -- Take gives 1, 6, 3, 2, 7, 8, 9, 10 in that order or applies the message, and is exact.
 pub take-exact : (b bytes : List ℕ)
-    → Decided (λ o. o .answer .number) (λ n. not-taken n b) (take-checks b bytes) (taken-with b (message-at bytes)) (take-on b bytes)
-take-exact = take-decided
+    → Decided (λ o. o .answer .number) (λ n. not-taken n b) (take-checks format-1 b bytes) (taken-with b (format-1 .received bytes)) (take-on b bytes)
+take-exact = take-decided format-1
 
 -- What `exact` says, read at one number: count gives 3 exactly where the replica is right and the counter is not below k.
 pub count-gives-3 : (b : List ℕ) (q : ℕ) (out : List ℕ) → (count-on b q out .answer .number ≡ 3) ↔ ((right b ≡ true) × (ltb q (counters b) ≡ false))
@@ -162,23 +165,23 @@ read-gives-0 b q = read-decided b q .exact 0
 -- ---- NO CALL ONLY DECLINES
 
 -- Open accepts every right size.
-pub open-accepts : (b : List ℕ) (r k own : ℕ) → OpenSizes r k own → length b ≡ replica-length r k → open-on b r k own .number ≡ 0
+pub open-accepts : (b : List ℕ) (r k own : ℕ) → Sizes r k → own < r → length b ≡ replica-length r k → open-on b r k own .number ≡ 0
 open-accepts = sizes-opened
 
 -- Read accepts every counter of every fresh replica.
-pub read-accepts : (r k own q : ℕ) → OpenSizes r k own → q < k → read-on (fresh-words r k own) q .number ≡ 0
+pub read-accepts : (r k own q : ℕ) → Sizes r k → own < r → q < k → read-on (fresh-words r k own) q .number ≡ 0
 read-accepts = fresh-read
 
 -- Count accepts every counter of every fresh replica, into 36 bytes or more.
-pub count-accepts : (r k own q : ℕ) → OpenSizes r k own → q < k → (out : List ℕ) → 36 ≤ length out → count-on (fresh-words r k own) q out .answer .number ≡ 0
+pub count-accepts : (r k own q : ℕ) → Sizes r k → own < r → q < k → (out : List ℕ) → increment-length ≤ length out → count-on (fresh-words r k own) q out .answer .number ≡ 0
 count-accepts = fresh-count
 
 -- Clear accepts every counter of every fresh replica, into 28 bytes or more.
-pub clear-accepts : (r k own q : ℕ) → OpenSizes r k own → q < k → (out : List ℕ) → 28 ≤ length out → clear-on (fresh-words r k own) q out .answer .number ≡ 0
+pub clear-accepts : (r k own q : ℕ) → Sizes r k → own < r → q < k → (out : List ℕ) → clear-length 0 ≤ length out → clear-on (fresh-words r k own) q out .answer .number ≡ 0
 clear-accepts = fresh-clear
 
 -- Take accepts any other card's first increment on any counter of a fresh replica.
-pub take-accepts : (r k own q : ℕ) → OpenSizes r k own → q < k → (j : ℕ) → j < r → j ≢ own
+pub take-accepts : (r k own q : ℕ) → Sizes r k → own < r → q < k → (j : ℕ) → j < r → j ≢ own
     → take-on (fresh-words r k own) (message-bytes (increment-message j 1 q 1 1)) .answer .number ≡ 0
 take-accepts = fresh-take
 
@@ -203,7 +206,7 @@ pub take-isolates : (b bytes : List ℕ) → Isolates b (message-at bytes .count
 take-isolates b bytes =
     by-place (take-on b bytes .answer .number) 0
     (λ h. move-isolates b _ _ _ _ (take-move b bytes h))
-    (λ d. rw (take-decided b bytes .refused d) (unmoved-isolates b (message-at bytes .counter)))
+    (λ d. rw (take-decided format-1 b bytes .refused d) (unmoved-isolates b (message-at bytes .counter)))
 
 -- ---- ORDER AND REPEATS
 

@@ -1,4 +1,4 @@
--- CLAIMS. Document 01's orders of a single card ("Orders from the bench"), computed on the calls' definitions.
+-- CLAIMS. The scenarios of a single card (SPECIFICATION 10.1), computed on the calls' definitions.
 use Prim.Native.Nat.{ℕ, _+_, _*_}
 use mathlib.Core.Path.{_≡_, refl}
 use mathlib.Core.List.{List}
@@ -9,11 +9,14 @@ use Rattle.protocol.specs.Tables.{put, sum, bits}
 use Rattle.protocol.specs.Entry.{incremented, cleared}
 use Rattle.protocol.specs.Chassis.{count-message, present-entries, clear-message, read-value, read-holders}
 use Rattle.protocol.specs.StoreLaws.{cleared-words, taken-words, shown}
+use Rattle.protocol.specs.Functions.{all-below, count-below}
+use Rattle.protocol.specs.Acceptance.{tables-well-formed, entry-well-formed, card-well-formed, all-entries, cards-known, increment-implausible, entry-plausible, plausible}
 use Rattle.wire.specs.Number.{number-at, bytes-of}
 use Rattle.wire.specs.Message as form
 use Rattle.wire.specs.Message.{header-bytes, increment-bytes, entry-bytes, entries-bytes, clear-bytes, message-bytes, header-in-range, increment-in-range, clear-in-range, entry-in-range, entries-in-range, unused, in-range, increment-message, entries-at, called-length, message-at, reads}
 use Rattle.replica_model.specs.Layout.{C-of, N-of, entry-of, fresh-words}
-use Rattle.replica_model.specs.Calls.{sizes-in-range, right, all-below, count-below, entry-well-formed, card-well-formed, row-well-formed, open-on, reading, read-on, sent, sending, count-on, clear-on, content, all-entries, cards-known, increment-implausible, entry-plausible, plausible, taking, take-on}
+use Rattle.replica_model.specs.Calls.{replica-fits, words-after, send-with, take-with, sizes-in-range, right, row-well-formed, open-on, reading, read-on, count-on, clear-on, take-on}
+use Rattle.replica_model.specs.Format.{content}
 
 room : ℕ → List ℕ
 room n = replicate n 0
@@ -22,14 +25,14 @@ room n = replicate n 0
 answer-to : List ℕ → ℕ → ℕ
 answer-to b sequence = take-on b (message-bytes (increment-message 0 sequence 0 1 1)) .answer .number
 
--- "Clear on a fresh book: 28 bytes, N 1, C 0."
+-- "Clear on a fresh replica: 28 bytes, N 1, C 0."
 clear-on-fresh : Bool
 clear-on-fresh =
     let b = fresh-words 2 2 0 in
     let done = clear-on b 0 (room 40) in
     eqb (done .answer .number) 0 && eqb (done .answer .length) 28 && eqb (N-of 2 (done .words) 0) 1 && eqb (C-of (done .words) 0) 0
 
--- "Fresh book, in turn: sequence 0 is 6, 2 is 9, 1 taken, 1 again is 8."
+-- "Fresh replica, in turn: sequence 0 is 6, 2 is 9, 1 taken, 1 again is 8."
 sequences : Bool
 sequences =
     let b = fresh-words 2 2 1 in
@@ -71,5 +74,5 @@ pub all-examples : Bool
 all-examples = clear-on-fresh && sequences && output-lengths && counter-limits && third-count && count-clear-count
 
 pub examples-hold : all-examples ≡ true
-unfolding all-examples clear-on-fresh sequences output-lengths counter-limits third-count count-clear-count answer-to room sizes-in-range right all-below count-below entry-well-formed card-well-formed row-well-formed open-on reading read-on sent sending count-on clear-on content all-entries cards-known increment-implausible entry-plausible plausible taking take-on fresh-words header-bytes increment-bytes entry-bytes entries-bytes clear-bytes message-bytes header-in-range increment-in-range clear-in-range entry-in-range entries-in-range unused in-range increment-message entries-at called-length message-at reads number-at bytes-of cleared-words taken-words shown count-message present-entries clear-message read-value read-holders put sum bits incremented cleared form.clear-message
+unfolding all-examples clear-on-fresh sequences output-lengths counter-limits third-count count-clear-count answer-to room sizes-in-range right replica-fits all-below count-below entry-well-formed card-well-formed row-well-formed tables-well-formed open-on reading read-on send-with words-after count-on clear-on content all-entries cards-known increment-implausible entry-plausible plausible take-with fresh-words header-bytes increment-bytes entry-bytes entries-bytes clear-bytes message-bytes header-in-range increment-in-range clear-in-range entry-in-range entries-in-range unused in-range increment-message entries-at called-length message-at reads number-at bytes-of cleared-words taken-words shown count-message present-entries clear-message read-value read-holders put sum bits incremented cleared form.clear-message
 examples-hold = refl

@@ -10,26 +10,23 @@ use lib.Dec.{leb, ltb, eqb}
 use borrow.Author.Tests.{lt-ltb, le-leb, ne-eqb}
 use Rattle.protocol.specs.Limits.{MAX}
 use Rattle.protocol.specs.Entry.{present}
-use Rattle.wire.specs.Message.{increment-message, message-bytes}
+use Rattle.protocol.specs.Acceptance.{all-entries, cards-known, increment-implausible, plausible}
+use Rattle.protocol.specs.Checks.{Gives}
+use Rattle.protocol.specs.AcceptanceLaws.{row-alike, count-none}
+use Rattle.wire.specs.Message.{increment-message, message-bytes, increment-length, clear-length}
 use Rattle.wire.specs.Bounds.{increment-in-range-from, increment-entries}
 use Rattle.wire.specs.RoundTrips.{message-read, read-as}
 use Rattle.replica_model.specs.Layout.{replica-length, C-of, N-of, fresh-words}
 use Rattle.replica_model.specs.LayoutLaws.{fresh-shows}
-use Rattle.replica_model.specs.Calls.{sizes-in-range, right, row-well-formed, open-on, read-on, count-on, clear-on, all-entries, cards-known, increment-implausible, plausible, take-on}
-use Rattle.replica_model.specs.ClaimTerms.{OpenSizes, Right, RowOf, Gives, send-checks, holders}
-use Rattle.replica_model.specs.RowLaws.{right-from, row-from, row-alike, count-none, tests}
-use Rattle.replica_model.specs.Exact.{open-decided, read-decided, count-decided, clear-decided, take-decided}
+use Rattle.replica_model.specs.Calls.{sizes-in-range, right, row-well-formed, open-on, read-on, count-on, clear-on, take-on, send-checks, holders, replica-fits}
+use Rattle.replica_model.specs.ClaimTerms.{Right, RowOf, Sizes}
+use Rattle.replica_model.specs.RowLaws.{right-from, row-from, tests}
+use Rattle.replica_model.specs.Format.{content, format-1}
+use Rattle.replica_model.specs.CallsLaws.{open-decided, read-decided, count-decided, clear-decided, take-decided}
 
-pub fresh-right : (r k own : ℕ) → OpenSizes r k own → Right (fresh-words r k own)
+pub fresh-right : (r k own : ℕ) → Sizes r k → own < r → Right (fresh-words r k own)
 unfolding fresh-words
-fresh-right r k own s = record {
-  some-cards = s .some-cards;
-  few-cards = s .few-cards;
-  some-counters = s .some-counters;
-  few-counters = s .few-counters;
-  own = s .own-below;
-  fits = fresh-shows r k own .fits;
-}
+fresh-right r k own s o = record { sizes = s; own = o; fits = fresh-shows r k own .fits }
 
 pub fresh-row : (r k own q : ℕ) → own < r → q < k → RowOf (fresh-words r k own) q
 unfolding fresh-words
@@ -39,24 +36,24 @@ fresh-row r k own q ho hq =
 
 -- ---- what each call accepts
 
-pub sizes-opened : (b : List ℕ) (r k own : ℕ) → OpenSizes r k own → length b ≡ replica-length r k → open-on b r k own .number ≡ 0
-unfolding sizes-in-range
-sizes-opened b r k own s h = open-decided b r k own .exact 0 .1 (simp tests (omega arith), refl)
+pub sizes-opened : (b : List ℕ) (r k own : ℕ) → Sizes r k → own < r → length b ≡ replica-length r k → open-on b r k own .number ≡ 0
+unfolding replica-fits sizes-in-range
+sizes-opened b r k own s o h = open-decided b r k own .exact 0 .1 (simp tests (omega arith), refl)
 
-module _ (r k own q : ℕ) (s : OpenSizes r k own) (hq : q < k) where
+module _ (r k own q : ℕ) (s : Sizes r k) (o : own < r) (hq : q < k) where
   abbrev b : List ℕ
   b = fresh-words r k own
 
   is-right : right b ≡ true
-  is-right = right-from b (fresh-right r k own s)
+  is-right = right-from b (fresh-right r k own s o)
 
   is-well-formed : row-well-formed b q ≡ true
-  is-well-formed = row-from b q (fresh-row r k own q (s .own-below) hq)
+  is-well-formed = row-from b q (fresh-row r k own q o hq)
 
   sends : (out : List ℕ) (size : ℕ) → size ≤ length out → Gives (send-checks b q out size) 0
   unfolding fresh-words
   sends out size l =
-      let zero-N : N-of r b own ≡ 0 = fresh-shows r k own .Ns own (s .own-below) in
+      let zero-N : N-of r b own ≡ 0 = fresh-shows r k own .Ns own o in
       let more : eqb (N-of r b own) MAX ≡ false = ne-eqb (N-of r b own) MAX (λ e. omega arith) in
       (is-right, (lt-ltb q k hq, (is-well-formed, (ap not more, (le-leb size (length out) l, refl)))))
 
@@ -64,19 +61,19 @@ module _ (r k own q : ℕ) (s : OpenSizes r k own) (hq : q < k) where
   unfolding fresh-words
   fresh-read = read-decided b q .exact 0 .1 (is-right, (lt-ltb q k hq, (is-well-formed, refl)))
 
-  pub fresh-count : (out : List ℕ) → 36 ≤ length out → count-on b q out .answer .number ≡ 0
-  fresh-count out l = count-decided b q out .exact 0 .1 (sends out 36 l)
+  pub fresh-count : (out : List ℕ) → increment-length ≤ length out → count-on b q out .answer .number ≡ 0
+  fresh-count out l = count-decided b q out .exact 0 .1 (sends out increment-length l)
 
   none : holders b q ≡ 0
   unfolding fresh-words
   none = count-none r _ (λ j l. ap present (fresh-shows r k own .entries q j hq l))
 
-  pub fresh-clear : (out : List ℕ) → 28 ≤ length out → clear-on b q out .answer .number ≡ 0
+  pub fresh-clear : (out : List ℕ) → clear-length 0 ≤ length out → clear-on b q out .answer .number ≡ 0
   fresh-clear out l = clear-decided b q out .exact 0 .1 (sends out _ (let z = none in omega arith))
 
   -- another card's first increment
   pub fresh-take : (j : ℕ) → j < r → j ≢ own → take-on b (message-bytes (increment-message j 1 q 1 1)) .answer .number ≡ 0
-  unfolding fresh-words increment-message cards-known plausible increment-implausible all-entries
+  unfolding fresh-words increment-message content cards-known plausible increment-implausible all-entries
   fresh-take j hj other =
       let m = increment-message j 1 q 1 1 in
       let few = s .few-cards in
@@ -87,4 +84,4 @@ module _ (r k own q : ℕ) (s : OpenSizes r k own) (hq : q < k) where
       let known : ltb j r && not (eqb j own) && true ≡ true = rw (lt-ltb j r hj, ne-eqb j own other) in
       let next : ltb (N-of r b j) 1 ≡ true = lt-ltb (N-of r b j) 1 (omega arith) in
       let soon : leb 1 (N-of r b j + 1) ≡ true = le-leb 1 (N-of r b j + 1) (omega arith) in
-      take-decided b (message-bytes m) .exact 0 .1 (rw same (is-right, (h, (lt-ltb q k hq, (is-well-formed, (known, (next, (soon, (rw c, refl)))))))))
+      take-decided format-1 b (message-bytes m) .exact 0 .1 (rw same (is-right, (h, (lt-ltb q k hq, (is-well-formed, (known, (next, (soon, (rw c, refl)))))))))

@@ -1,41 +1,54 @@
--- DEFINITIONS. One card's replica (document 01's "book") as a list of words: the only file that knows where a word stands.
--- "3 + 2r + 3rk words: r, k, own card; then C[j] for each card j; then N[j]; then, counter by counter, one entry (p, n, c) for each card."
+-- DEFINITIONS. One card's replica (SPECIFICATION 3) as a list of words: the only file that knows where a word stands.
+-- "3 + 2r + 3rk words: r, k, own card; then C[j] for each card j .. then N[j] .. then, counter by counter, one entry (p, n, c) for each card."
 use Prim.Native.Nat.{ℕ, _+_, _*_}
+use mathlib.Core.Path.{_≡_}
 use mathlib.Core.List.{List, [], _∷_, _++_}
-use lib.ListN.{getD, set, replicate}
+use lib.ListN.{length, getD, set, replicate}
 use Rattle.protocol.specs.declared.Entry.{Entry}
+use Rattle.protocol.specs.Store.{Store}
 
--- "r, k, own card"
+-- "r, k, own card": what stands before C
+pub record Head : Type 0 where
+  pub cards : ℕ
+  pub counters : ℕ
+  pub own-card : ℕ
+
+abbrev pub head-of : List ℕ → Head
+head-of b = record { cards = getD b 0 0; counters = getD b 1 0; own-card = getD b 2 0 }
+
+abbrev pub head-words : Head → List ℕ
+head-words h = h .cards ∷ h .counters ∷ h .own-card ∷ []
+
+-- how many words it takes
+abbrev pub head-length : ℕ
+head-length = 3
+
 abbrev pub cards : List ℕ → ℕ
-cards b = getD b 0 0
+cards b = head-of b .cards
 
 abbrev pub counters : List ℕ → ℕ
-counters b = getD b 1 0
+counters b = head-of b .counters
 
 abbrev pub own-card : List ℕ → ℕ
-own-card b = getD b 2 0
-
--- how many words stand before C
-abbrev pub head : ℕ
-head = 3
+own-card b = head-of b .own-card
 
 abbrev pub replica-length : ℕ → ℕ → ℕ
-replica-length r k = head + 2 * r + 3 * (r * k)
+replica-length r k = head-length + 2 * r + 3 * (r * k)
 
 abbrev pub at-C : ℕ → ℕ
-at-C j = head + j
+at-C j = head-length + j
 
 abbrev pub at-N : ℕ → ℕ → ℕ
-at-N r j = head + r + j
+at-N r j = head-length + r + j
 
--- which of all the entries is counter q's for card j; the first of its three words
+-- which of all the entries is row q's for card j; the first of its three words
 abbrev pub cell : ℕ → ℕ → ℕ → ℕ
 cell r q j = q * r + j
 
 abbrev pub at-entry : ℕ → ℕ → ℕ → ℕ
-at-entry r q j = head + 2 * r + 3 * cell r q j
+at-entry r q j = head-length + 2 * r + 3 * cell r q j
 
--- ---- C[j], N[j] and the entry of counter q for card j, in a replica of r cards
+-- ---- C[j], N[j] and the entry of row q for card j, in a replica of r cards. Row q is counter q's.
 
 abbrev pub C-of : List ℕ → ℕ → ℕ
 C-of b j = getD b (at-C j) 0
@@ -63,6 +76,21 @@ set-three b at x y z = set (set (set b at x) (at + 1) y) (at + 2) z
 abbrev pub set-entry : ℕ → ℕ → ℕ → Entry → List ℕ → List ℕ
 set-entry r q j e b = set-three b (at-entry r q j) (e .p) (e .n) (e .c)
 
--- "A fresh book has zeros after its first three words."
+-- the words as a store of replicas of r cards and k counters
+abbrev pub layout : ℕ → ℕ → Store
+layout r k = record {
+  Words = List ℕ;
+  Fits = λ b. length b ≡ replica-length r k;
+  Head = Head;
+  head = head-of;
+  entry = entry-of r;
+  C = C-of;
+  N = N-of r;
+  set-entry = set-entry r;
+  set-C = set-C;
+  set-N = set-N r;
+}
+
+-- "A fresh replica has zeros after its first three words."
 unfoldable pub fresh-words : ℕ → ℕ → ℕ → List ℕ
-fresh-words r k own = (r ∷ k ∷ own ∷ []) ++ replicate (2 * r + 3 * (r * k)) 0
+fresh-words r k own = head-words (record { cards = r; counters = k; own-card = own }) ++ replicate (2 * r + 3 * (r * k)) 0

@@ -1,4 +1,4 @@
--- LAWS. The layout is a store (`layout`): what each accessor finds after each setter. Everything above uses these laws and no offset.
+-- LAWS. The layout is a store whose accessors find after each setter what a table would give (`lawful`). Everything above uses these laws and no offset.
 use Prim.Native.Nat.{ℕ, zero, suc, _+_, _-_, _*_, _≤_, _<_}
 use mathlib.Core.Path.{_≡_, refl, ap, _∙_}
 use mathlib.Core.Logic.{_≢_}
@@ -6,13 +6,13 @@ use mathlib.Core.List.{List, [], _∷_}
 use native.Mathlib.Nat.{mul-le-mul-right}
 use native.Mathlib.Omega.{arith}
 use lib.ListN.{length, getD, set, replicate, length-set, length-replicate}
-use lib.Seq.{getD-set-same, getD-set-other, getD-append-add}
+use lib.Seq.{getD-set-same, getD-set-other, getD-append-add, set-getD}
 use Rattle.protocol.specs.Cases.{by-place, by-le}
 use Rattle.protocol.specs.Tables.{put, put-same, put-other, put-same-row, put-other-row}
 use Rattle.protocol.specs.declared.Entry.{Entry}
 use Rattle.protocol.specs.Chassis.{fresh-replica}
-use Rattle.protocol.specs.StoreLaws.{Store, Shows}
-use Rattle.replica_model.specs.Layout.{head, replica-length, at-C, at-N, cell, at-entry, C-of, N-of, entry-of, set-C, set-N, set-three, set-entry, fresh-words}
+use Rattle.protocol.specs.StoreLaws.{Shows, Lawful}
+use Rattle.replica_model.specs.Layout.{Head, head-of, cards, counters, own-card, head-words, head-length, replica-length, at-C, at-N, cell, at-entry, C-of, entry-of, set-C, set-three, set-entry, layout, fresh-words}
 
 -- ---- which entry is where: the one place with products
 
@@ -31,8 +31,8 @@ cell-apart r q j q′ j′ hj hj′ d e =
 
 -- ---- three words in a row
 
-pub set-three-length : (ws : List ℕ) (a x y z : ℕ) → length (set-three ws a x y z) ≡ length ws
-set-three-length ws a x y z = simp length-set
+pub set-entry-length : (r q j : ℕ) (e : Entry) (ws : List ℕ) → length (set-entry r q j e ws) ≡ length ws
+set-entry-length r q j e ws = simp length-set
 
 set-three-0 : (ws : List ℕ) (a x y z : ℕ) → a + 2 < length ws → getD (set-three ws a x y z) a 0 ≡ x
 set-three-0 ws a x y z h =
@@ -84,44 +84,62 @@ module _ (r k : ℕ) where
       here = same-entry (set-three-0 ws (at-entry r q j) (e .p) (e .n) (e .c) room) (set-three-1 ws (at-entry r q j) (e .p) (e .n) (e .c) room) (set-three-2 ws (at-entry r q j) (e .p) (e .n) (e .c) room)
 
   -- the words before the entries
-  pub C-entry : (q j : ℕ) (e : Entry) (ws : List ℕ) (i : ℕ) → i < head + 2 * r → getD (set-entry r q j e ws) i 0 ≡ getD ws i 0
-  C-entry q j e ws i l = set-three-far ws (at-entry r q j) (e .p) (e .n) (e .c) i (λ d. omega arith) (λ d. omega arith) (λ d. omega arith)
+  before-entry : (q j : ℕ) (e : Entry) (ws : List ℕ) (i : ℕ) → i < head-length + 2 * r → getD (set-entry r q j e ws) i 0 ≡ getD ws i 0
+  before-entry q j e ws i l = set-three-far ws (at-entry r q j) (e .p) (e .n) (e .c) i (λ d. omega arith) (λ d. omega arith) (λ d. omega arith)
 
-  pub entry-word : (i v : ℕ) (ws : List ℕ) → i < head + 2 * r → (q j : ℕ) → entry-of r (set ws i v) q j ≡ entry-of r ws q j
+  entry-word : (i v : ℕ) (ws : List ℕ) → i < head-length + 2 * r → (q j : ℕ) → entry-of r (set ws i v) q j ≡ entry-of r ws q j
   entry-word i v ws l q j =
       same-entry (getD-set-other ws i (at-entry r q j) v 0 (λ d. omega arith)) (getD-set-other ws i (at-entry r q j + 1) v 0 (λ d. omega arith))
       (getD-set-other ws i (at-entry r q j + 2) v 0 (λ d. omega arith))
 
   -- a table of words: `from` is its first place
-  pub word-word : (from j v : ℕ) (ws : List ℕ) → from + j < length ws → (i : ℕ) → getD (set ws (from + j) v) (from + i) 0 ≡ put j v (λ i. getD ws (from + i) 0) i
+  word-word : (from j v : ℕ) (ws : List ℕ) → from + j < length ws → (i : ℕ) → getD (set ws (from + j) v) (from + i) 0 ≡ put j v (λ i. getD ws (from + i) 0) i
   word-word from j v ws l i =
       by-place i j
       (λ e. rw e (rw put-same (getD-set-same ws (from + j) v 0 l)))
       (λ d. rw put-other (getD-set-other ws (from + j) (from + i) v 0 (λ e. d (omega arith))))
 
-  abbrev pub layout : Store r k
-  layout = record {
-    Words = List ℕ;
-    Fits = λ ws. length ws ≡ replica-length r k;
-    entry = entry-of r;
-    C = C-of;
-    N = N-of r;
-    set-entry = set-entry r;
-    set-C = set-C;
-    set-N = set-N r;
-    fits-entry = λ q j e ws h. set-three-length ws (at-entry r q j) (e .p) (e .n) (e .c) ∙ h;
+  -- the head, where its words stay
+  same-head : (b b′ : List ℕ) → ((i : ℕ) → i < head-length → getD b′ i 0 ≡ getD b i 0) → head-of b′ ≡ head-of b
+  same-head b b′ e = λ x. record { cards = e 0 (omega arith) x; counters = e 1 (omega arith) x; own-card = e 2 (omega arith) x }
+
+  head-word : (at v : ℕ) (ws : List ℕ) → head-length ≤ at → head-of (set ws at v) ≡ head-of ws
+  head-word at v ws l = same-head ws (set ws at v) (λ i below. getD-set-other ws at i v 0 (λ d. omega arith))
+
+  pub lawful : Lawful r k (layout r k)
+  lawful = record {
+    fits-entry = λ q j e ws h. set-entry-length r q j e ws ∙ h;
     fits-C = λ j v ws h. length-set ws (at-C j) v ∙ h;
     fits-N = λ j v ws h. length-set ws (at-N r j) v ∙ h;
+    head-entry = λ q j e ws hj. same-head ws (set-entry r q j e ws) (λ i below. before-entry q j e ws i (omega arith));
+    head-C = λ j v ws. head-word (at-C j) v ws (omega arith);
+    head-N = λ j v ws. head-word (at-N r j) v ws (omega arith);
     entry-entry = entry-entry;
-    C-entry = λ q j e ws h hq hj j′ l. C-entry q j e ws (at-C j′) (omega arith);
-    N-entry = λ q j e ws h hq hj j′ l. C-entry q j e ws (at-N r j′) (omega arith);
-    entry-C = λ j v ws h hj q′ j′ hq′ hj′. entry-word (at-C j) v ws (omega arith) q′ j′;
-    C-C = λ j v ws h hj j′ l. word-word head j v ws (omega arith) j′;
-    N-C = λ j v ws h hj j′ l. getD-set-other ws (at-C j) (at-N r j′) v 0 (λ d. omega arith);
-    entry-N = λ j v ws h hj q′ j′ hq′ hj′. entry-word (at-N r j) v ws (omega arith) q′ j′;
-    C-N = λ j v ws h hj j′ l. getD-set-other ws (at-N r j) (at-C j′) v 0 (λ d. omega arith);
-    N-N = λ j v ws h hj j′ l. word-word (head + r) j v ws (omega arith) j′;
+    C-entry = λ q j e ws hj j′ l. before-entry q j e ws (at-C j′) (omega arith);
+    N-entry = λ q j e ws hj j′ l. before-entry q j e ws (at-N r j′) (omega arith);
+    entry-C = λ j v ws hj q′ j′. entry-word (at-C j) v ws (omega arith) q′ j′;
+    C-C = λ j v ws h hj j′ l. word-word head-length j v ws (omega arith) j′;
+    N-C = λ j v ws hj j′ l. getD-set-other ws (at-C j) (at-N r j′) v 0 (λ d. omega arith);
+    entry-N = λ j v ws hj q′ j′. entry-word (at-N r j) v ws (omega arith) q′ j′;
+    C-N = λ j v ws hj j′ l. getD-set-other ws (at-N r j) (at-C j′) v 0 (λ d. omega arith);
+    N-N = λ j v ws h hj j′ l. word-word (head-length + r) j v ws (omega arith) j′;
   }
+
+-- C[j] set to what it is
+pub set-C-same : (j : ℕ) (ws : List ℕ) → set-C j (C-of ws j) ws ≡ ws
+set-C-same j ws = set-getD ws (at-C j) 0
+
+-- ---- what a head that stays says
+
+module _ (b b′ : List ℕ) (same : head-of b′ ≡ head-of b) where
+  pub same-cards : cards b′ ≡ cards b
+  same-cards = ap (λ (h : Head). h .cards) same
+
+  pub same-counters : counters b′ ≡ counters b
+  same-counters = ap (λ (h : Head). h .counters) same
+
+  pub same-own : own-card b′ ≡ own-card b
+  same-own = ap (λ (h : Head). h .own-card) same
 
 -- ---- a fresh replica
 
@@ -130,16 +148,21 @@ zeros zero i = refl
 zeros (suc n) zero = refl
 zeros (suc n) (suc i) = zeros n i
 
--- every word behind the first three is 0
-fresh-word : (r k i x : ℕ) → 3 ≤ x → getD (fresh-words r k i) x 0 ≡ 0
+-- every word behind the head is 0
+fresh-word : (r k i x : ℕ) → head-length ≤ x → getD (fresh-words r k i) x 0 ≡ 0
 unfolding fresh-words
 fresh-word r k i x l =
-    let e : x ≡ 3 + (x - 3) = omega arith in
+    let h : List ℕ = head-words (record { cards = r; counters = k; own-card = i }) in
+    let e : x ≡ head-length + (x - head-length) = omega arith in
     ap (λ (y : ℕ). getD (fresh-words r k i) y 0) e
-    ∙ getD-append-add (r ∷ k ∷ i ∷ []) (replicate (2 * r + 3 * (r * k)) 0) (x - 3) 0
-    ∙ zeros (2 * r + 3 * (r * k)) (x - 3)
+    ∙ getD-append-add h (replicate (2 * r + 3 * (r * k)) 0) (x - head-length) 0
+    ∙ zeros (2 * r + 3 * (r * k)) (x - head-length)
 
-pub fresh-shows : (r k i : ℕ) → Shows r k (layout r k) (fresh-words r k i) fresh-replica
+pub fresh-head : (r k i : ℕ) → head-of (fresh-words r k i) ≡ record { cards = r; counters = k; own-card = i }
+unfolding fresh-words
+fresh-head r k i = refl
+
+pub fresh-shows : (r k i : ℕ) → Shows (layout r k) r k (fresh-words r k i) fresh-replica
 unfolding fresh-words
 fresh-shows r k i = record {
   fits = fresh-length;

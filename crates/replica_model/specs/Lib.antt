@@ -1,12 +1,15 @@
 -- The layout and its laws; what each call does; its orders, computed.
 pub mod Layout
 pub mod LayoutLaws
+pub mod Format
 pub mod Calls
 pub mod Examples
 -- Laws: tests and plain facts, refusals, what a message does, what a card sends and takes.
 pub mod ClaimTerms
 pub mod RowLaws
-pub mod Exact
+pub mod FormatLaws
+pub mod PresentLaws
+pub mod CallsLaws
 pub mod WellFormedKept
 pub mod Performed
 pub mod FreshReplica

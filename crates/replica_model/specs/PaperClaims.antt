@@ -6,14 +6,14 @@ use mathlib.Core.List.{List}
 use lib.ListN.{take}
 use Rattle.protocol.specs.Algorithm1.{value, inc-generator, reset-generator}
 use Rattle.protocol.specs.Claims.{algorithm-1-value, algorithm-1-count, algorithm-1-clear}
-use Rattle.wire.specs.Message.{message-at}
+use Rattle.wire.specs.Message.{message-at, increment-length, clear-length}
 use Rattle.replica_model.specs.Layout.{cards, own-card, N-of}
-use Rattle.replica_model.specs.Calls.{state, reading, read-on, count-on, clear-on, take-on}
-use Rattle.replica_model.specs.ClaimTerms.{holders, count-of, clear-of}
-use Rattle.replica_model.specs.Exact.{read-decided, count-decided, clear-decided, take-decided}
+use Rattle.replica_model.specs.Calls.{state, reading, read-on, count-on, clear-on, take-on, holders, count-of, clear-of}
+use Rattle.replica_model.specs.Format.{format-1}
+use Rattle.replica_model.specs.CallsLaws.{read-decided, count-decided, clear-decided, take-decided}
 use Rattle.replica_model.specs.Senders.{count-writable, clear-writable}
-use Rattle.replica_model.specs.Receivers.{taking-facts}
-use Rattle.replica_model.specs.AcceptedCalls.{sending-facts, count-move, clear-move, take-move}
+use Rattle.replica_model.specs.Receivers.{taking-facts, take-passes, content-counter}
+use Rattle.replica_model.specs.AcceptedCalls.{sent-facts, count-move, clear-move, take-move}
 use Rattle.replica_model.specs.Paper.{instance-of, update-of, PaperStep, Says}
 use Rattle.replica_model.specs.PaperLaws.{inc-made, reset-made, content-is, move-performs, sends}
 
@@ -29,8 +29,8 @@ pub count-is-algorithm-1 : (b : List ℕ) (q : ℕ) (out : List ℕ) → count-o
     Says (take (done .answer .length) (done .out)) (own-card b) (N-of (cards b) b (own-card b) + 1) q u × PaperStep b q u (done .words)
 count-is-algorithm-1 b q out h =
     let d = count-decided b q out in
-    let k = sending-facts b q out 36 (d .exact 0 .0 h) in
-    sends b out q _ (count-of b q) 36 _ (algorithm-1-count (own-card b) q (state b)) (inc-made b q) (k .row) (count-writable b q k) (d .accepted h) (count-move b q out h)
+    let k = sent-facts b q out increment-length (d .exact 0 .0 h) in
+    sends b out q _ (count-of b q) increment-length _ (algorithm-1-count (own-card b) q (state b)) (inc-made b q) (k .row) (count-writable b q k) (d .accepted h) (count-move b q out h)
 
 -- Lines 27-38: an accepted clear writes what the generator of reset returns, as the own card's message number N + 1, and performs its effector.
 pub clear-is-algorithm-1 : (b : List ℕ) (q : ℕ) (out : List ℕ) → clear-on b q out .answer .number ≡ 0
@@ -39,8 +39,8 @@ pub clear-is-algorithm-1 : (b : List ℕ) (q : ℕ) (out : List ℕ) → clear-o
     Says (take (done .answer .length) (done .out)) (own-card b) (N-of (cards b) b (own-card b) + 1) q u × PaperStep b q u (done .words)
 clear-is-algorithm-1 b q out h =
     let d = clear-decided b q out in
-    let size = 28 + 20 * holders b q in
-    let k = sending-facts b q out size (d .exact 0 .0 h) in
+    let size = clear-length (holders b q) in
+    let k = sent-facts b q out size (d .exact 0 .0 h) in
     sends b out q _ (clear-of b q) size _ (algorithm-1-clear (cards b) q (state b)) (reset-made b q) (k .row) (clear-writable b q k) (d .accepted h) (clear-move b q out h)
 
 -- Lines 17-26 and 30-38: an accepted take performs the effector of the update that the bytes say, on the counter that they name.
@@ -49,5 +49,5 @@ pub take-is-algorithm-1 : (b bytes : List ℕ) → take-on b bytes .answer .numb
 take-is-algorithm-1 b bytes h =
     let m = message-at bytes in
     let says = content-is m in
-    let k = taking-facts b bytes (take-decided b bytes .exact 0 .0 h) in
-    move-performs b (m .counter) (m .sender) (update-of m) _ (k .row) (says .1) (rw (← (says .0)) (take-move b bytes h))
+    let k = taking-facts b bytes (take-passes b bytes (take-decided format-1 b bytes .exact 0 .0 h)) in
+    move-performs b (m .counter) (m .sender) (update-of m) _ (rw (content-counter m) at (k .row)) (says .1) (rw (← (says .0)) (take-move b bytes h))

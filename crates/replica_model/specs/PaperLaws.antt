@@ -1,4 +1,4 @@
--- LAWS. Document 01's step on the words (`AcceptedCalls`) and the paper's (`protocol`'s `Algorithm1`) joined: a move whose message is an update of the paper's performs that
+-- LAWS. The specification's step on the words (`AcceptedCalls`) and the paper's (`protocol`'s `Algorithm1`) joined: a move whose message is an update of the paper's performs that
 -- update, and the message that is written for an update says it.
 use Prim.Native.Nat.{ℕ, _+_}
 use mathlib.Core.Path.{_≡_, refl, sym, ap, _∙_}
@@ -17,14 +17,16 @@ use Rattle.protocol.specs.Algorithm1.{Update, inc, reset, inc-generator, reset-
 use Rattle.protocol.specs.Claims.{algorithm-1-take-increment, algorithm-1-take-clear}
 use Rattle.wire.specs.declared.Message as wire
 use Rattle.wire.specs.Message as form
-use Rattle.wire.specs.Message.{increment-kind, increment-message, message-bytes, message-length, over}
-use Rattle.wire.specs.WriteLaws.{length-message-bytes}
+use Rattle.wire.specs.Message.{increment-kind, increment-message, message-bytes, over}
 use Rattle.replica_model.specs.Layout.{cards, own-card, C-of, N-of, entry-of}
-use Rattle.replica_model.specs.Calls.{state, SendOutcome, on-wire, content}
-use Rattle.replica_model.specs.ClaimTerms.{RowOf, sent-as, sent-with, Writable}
+use Rattle.replica_model.specs.Calls.{state, SendOutcome, sent-with}
+use Rattle.replica_model.specs.ClaimTerms.{RowOf, sent-as, Writable}
 use Rattle.replica_model.specs.WellFormedKept.{FittingEntries, Fitting}
 use Rattle.replica_model.specs.AcceptedCalls.{Move, move-isolates}
 use Rattle.replica_model.specs.Paper.{instance-of, update-of, SameBelow, PaperStep, Says}
+use Rattle.replica_model.specs.Format.{on-wire, content, size-of, format-1}
+use Rattle.replica_model.specs.FormatLaws.{on-wire-length}
+use Rattle.replica_model.specs.LayoutLaws.{same-cards}
 
 -- ---- updates and messages
 
@@ -51,7 +53,7 @@ some-units : (r own : ℕ) (C : ℕ → ℕ) (ts : List ClearEntry) → FittingE
 some-units r own C [] f = tt
 some-units r own C (t ∷ ts) (f, fs) = (f .some, some-units r own C ts fs)
 
--- in a well-formed row the paper's effector is document 01's step
+-- in a well-formed row the paper's effector is the specification's step
 effector-is : (b : List ℕ) (q s : ℕ) (u : Update) → RowOf b q → MadeBy s u → Fitting (cards b) (own-card b) s (C-of b) (message-of q u)
     → SameBelow (cards b) (state-of q (taken s (message-of q u) (state b))) (effector u (instance-of b q))
 unfolding effector shown
@@ -66,13 +68,13 @@ pub move-performs : (b : List ℕ) (q s : ℕ) (u : Update) (after : List ℕ) �
 unfolding shown
 move-performs b q s u after w made k = record {
   own = own;
-  others = λ q′ l d j lj. (own j lj .0, rw (k .performed .same-cards) (ap slot-of (move-isolates b q s (message-of q u) after k .rows-stay q′ j l lj d)));
+  others = λ q′ l d j lj. (own j lj .0, rw (same-cards b after (k .performed .same-head)) (ap slot-of (move-isolates b q s (message-of q u) after k .rows-stay q′ j l lj d)));
 }
   where
     own : SameBelow (cards b) (instance-of after q) (effector u (instance-of b q))
     own j l =
         let e = effector-is b q s u w made (k .fits) j l in
-        (k .performed .shows .Cs j l ∙ e .0, rw (k .performed .same-cards) (ap slot-of (k .performed .shows .entries q j (k .below) l) ∙ e .1))
+        (k .performed .shows .Cs j l ∙ e .0, rw (same-cards b after (k .performed .same-head)) (ap slot-of (k .performed .shows .entries q j (k .below) l) ∙ e .1))
 
 -- ---- said, and both
 
@@ -85,11 +87,11 @@ on-wire-is s sequence q (reset R) made = (refl, refl, refl, ap reset (take-appen
 
 -- the front of the output says what was written over it
 written-says : (b out : List ℕ) (q : ℕ) (u : Update) (size : ℕ) → MadeBy (own-card b) u
-    → let x = sent-as b (message-of q u) in Writable x size → Says (take (message-length x) (over (message-bytes x) out)) (own-card b) (N-of (cards b) b (own-card b) + 1) q u
+    → let x = sent-as b (message-of q u) in Writable x size → Says (take (size-of (message-of q u)) (over (message-bytes x) out)) (own-card b) (N-of (cards b) b (own-card b) + 1) q u
 written-says b out q u size made k =
     let x = sent-as b (message-of q u) in
     let h = on-wire-is (own-card b) (N-of (cards b) b (own-card b) + 1) q u made in
-    rw (take-at (message-bytes x) _ (message-length x) (length-message-bytes x))
+    rw (take-at (message-bytes x) _ (size-of (message-of q u)) (on-wire-length (own-card b) (N-of (cards b) b (own-card b) + 1) (message-of q u)))
     (record {
       readable = k .reads-well;
       sender-is = rw (k .reads-same) (h .0);
@@ -100,7 +102,7 @@ written-says b out q u size made k =
 
 -- an accepted send of a message that is an update: written and performed
 pub sends : (b out : List ℕ) (q : ℕ) (u : Update) (m : Message) (size : ℕ) (done : SendOutcome) → message-of q u ≡ m → MadeBy (own-card b) u → RowOf b q
-    → Writable (sent-as b m) size → done ≡ sent-with b out m → Move b q (own-card b) m (done .words)
+    → Writable (sent-as b m) size → done ≡ sent-with format-1 b out m → Move b q (own-card b) m (done .words)
     → Says (take (done .answer .length) (done .out)) (own-card b) (N-of (cards b) b (own-card b) + 1) q u × PaperStep b q u (done .words)
 sends b out q u m size done same made w k is moves =
     (rw (is, ← same) (written-says b out q u size made (rw same k)), move-performs b q (own-card b) u (done .words) w made (rw same moves))

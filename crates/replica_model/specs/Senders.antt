@@ -6,23 +6,26 @@ use mathlib.Core.Bool.{true}
 use native.Mathlib.Omega.{arith}
 use lib.ListN.{length}
 use borrow.Author.Tests.{ltb-true}
-use Rattle.protocol.specs.Limits.{MAX}
+use Rattle.protocol.specs.Limits.{MAX, most-cards}
 use Rattle.protocol.specs.Cases.{by-test}
 use Rattle.protocol.specs.declared.Entry.{Entry}
 use Rattle.protocol.specs.declared.ClearEntry.{ClearEntry}
 use Rattle.protocol.specs.Entry.{present, count-starts, count-p}
 use Rattle.protocol.specs.Chassis.{count-message, present-entries, clear-message}
 use Rattle.protocol.specs.StoreLaws.{shown}
+use Rattle.protocol.specs.Rows.{WellFormedRow}
+use Rattle.protocol.specs.AcceptanceLaws.{flag≤1}
 use Rattle.wire.specs.declared.Message as wire
-use Rattle.wire.specs.Message.{message-bytes, message-length, entry-in-range, entries-in-range, in-range}
+use Rattle.wire.specs.Message.{increment-length, clear-length, longest-message, message-bytes, message-length, entry-in-range, entries-in-range, in-range}
 use Rattle.wire.specs.Bounds.{HeaderBounds, increment-in-range-from, clear-in-range-from, increment-entries, clear-entries}
 use Rattle.wire.specs.WriteLaws.{length-message-bytes, increment-message-length, clear-message-length}
 use Rattle.wire.specs.RoundTrips.{message-read, read-as}
 use Rattle.replica_model.specs.Layout.{cards, counters, own-card, C-of, N-of, entry-of}
-use Rattle.replica_model.specs.ClaimTerms.{Right, WellFormedRow, RowOf, holders, count-of, clear-of, sent-as, Writable}
-use Rattle.replica_model.specs.RowLaws.{flag≤1, count-below≤, tests}
-use Rattle.replica_model.specs.Exact.{present-length}
+use Rattle.replica_model.specs.ClaimTerms.{Right, RowOf, sent-as, Writable}
+use Rattle.replica_model.specs.RowLaws.{tests}
+use Rattle.replica_model.specs.PresentLaws.{present-length, present-few}
 use Rattle.replica_model.specs.WellFormedKept.{FittingEntry, FittingEntries, Fitting}
+use Rattle.replica_model.specs.Calls.{holders, count-of, clear-of}
 
 -- what the checks before a message is made leave
 pub record Sending (b : List ℕ) (q : ℕ) : Type 0 where
@@ -43,13 +46,13 @@ module _ (own : ℕ) (C : ℕ → ℕ) where
   fits-more r (t ∷ ts) (f, fs) = (record { known = omega arith; some = f .some; p≤c = f .p≤c; c≤MAX = f .c≤MAX; own≤C = f .own≤C }, fits-more r ts fs)
 
   -- one entry more, of a card behind all the others
-  rises : (n low : ℕ) (ts : List ClearEntry) (t : ClearEntry) → n < 16 → t .card ≡ n → FittingEntry (suc n) own C t → low ≤ n → FittingEntries n own C ts
+  rises : (n low : ℕ) (ts : List ClearEntry) (t : ClearEntry) → n < most-cards → t .card ≡ n → FittingEntry (suc n) own C t → low ≤ n → FittingEntries n own C ts
       → entries-in-range low ts ≡ true → entries-in-range low (ts ++ t ∷ []) ≡ true
   unfolding entries-in-range entry-in-range
   rises n low [] t few e f l fs h = simp tests (omega arith, refl)
   rises n low (u ∷ us) t few e f l (g, gs) h = let k = simp tests at h in simp tests (k .0, rises n (u .card + 1) us t few e f (omega arith) gs (k .1))
 
-module _ (r own : ℕ) (C N : ℕ → ℕ) (row : ℕ → Entry) (k : WellFormedRow r own C N row) where
+module _ (r own : ℕ) (C N : ℕ → ℕ) (row : ℕ → Entry) (k : WellFormedRow MAX r own C N row) where
   last-fits : (n : ℕ) → n < r → present (row n) ≡ true → FittingEntry (suc n) own C (record { card = n; p = row n .p; c = row n .c })
   last-fits n l t = record {
     known = omega arith;
@@ -66,7 +69,7 @@ module _ (r own : ℕ) (C N : ℕ → ℕ) (row : ℕ → Entry) (k : WellFormed
       append-fits own C (suc n) (present-entries n row) _ (fits-more own C n (present-entries n row) (present-fits n (omega arith)))
       (by-test (present (row n)) (λ t. rw t (last-fits n l t, tt)) (λ t. rw t tt))
 
-  present-in-range : (n : ℕ) → n ≤ r → r ≤ 16 → entries-in-range 0 (present-entries n row) ≡ true
+  present-in-range : (n : ℕ) → n ≤ r → r ≤ most-cards → entries-in-range 0 (present-entries n row) ≡ true
   unfolding present-entries entries-in-range
   present-in-range zero l few = refl
   present-in-range (suc n) l few =
@@ -79,7 +82,7 @@ module _ (r own : ℕ) (C N : ℕ → ℕ) (row : ℕ → Entry) (k : WellFormed
 count-p-near : (known : ℕ) (e : Entry) → e .p ≤ known → (1 ≤ count-p 1 known e) × (count-p 1 known e ≤ known + 1)
 count-p-near known e l = by-test (present e) (λ t. rw t (omega arith)) (λ t. rw t (omega arith))
 
-writable : (x : wire.Message) (size : ℕ) → in-range x ≡ true → length (x .entries) ≡ 16 → message-length x ≡ size → size ≤ 348 → Writable x size
+writable : (x : wire.Message) (size : ℕ) → in-range x ≡ true → length (x .entries) ≡ most-cards → message-length x ≡ size → size ≤ longest-message → Writable x size
 writable x size h whole long short =
     let r = read-as (message-bytes x) x (message-read x whole h) in
     record { ranges = h; whole = whole; long = length-message-bytes x ∙ long; short = short; reads-well = r .0; reads-same = r .1 }
@@ -100,24 +103,24 @@ module _ (b : List ℕ) (q : ℕ) (k : Sending b q) where
   header : HeaderBounds (own-card b) (N-of (cards b) b (own-card b) + 1) q
   header = let r = k .right in let m = k .more in let l = k .counter in omega arith
 
-  pub count-writable : Writable (sent-as b (count-of b q)) 36
+  pub count-writable : Writable (sent-as b (count-of b q)) increment-length
   unfolding count-message shown
   count-writable =
       let near = p-near in
       let less = k .row .C≤N (own-card b) (k .right .own) in
       let start≤ = flag≤1 (count-starts (entry-of (cards b) b q (own-card b))) in
       let few = k .more in
-      writable _ 36 (increment-in-range-from (own-card b) _ q _ _ header (omega arith)) (increment-entries (own-card b) _ q _ _)
+      writable _ increment-length (increment-in-range-from (own-card b) _ q _ _ header (omega arith)) (increment-entries (own-card b) _ q _ _)
       (increment-message-length (own-card b) _ q _ _) (omega arith)
 
-  pub clear-writable : Writable (sent-as b (clear-of b q)) (28 + 20 * holders b q)
+  pub clear-writable : Writable (sent-as b (clear-of b q)) (clear-length (holders b q))
   unfolding clear-message shown
   clear-writable =
       let es = present-entries (cards b) (entry-of (cards b) b q) in
-      let same : length es ≡ holders b q = present-length (cards b) (entry-of (cards b) b q) in
-      let most = count-below≤ (cards b) (λ j. present (entry-of (cards b) b q j)) in
-      let few = k .right .few-cards in
-      let short : length es ≤ 16 = omega arith in
+      let same : length es ≡ holders b q = present-length (entry-of (cards b) b q) (cards b) in
+      let most = present-few (entry-of (cards b) b q) (cards b) in
+      let few = k .right .sizes .few-cards in
+      let short : length es ≤ most-cards = omega arith in
       writable _ _
       (clear-in-range-from (own-card b) _ q es header short
       (present-in-range (cards b) (own-card b) (C-of b) (N-of (cards b) b) (entry-of (cards b) b q) (k .row) (cards b) (omega arith) few))

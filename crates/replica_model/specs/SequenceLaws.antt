@@ -1,47 +1,66 @@
 -- LAWS. The order of a sender's messages: after a message is taken its checks before the sequence still pass and N stands at its sequence, so the same bytes again give 8.
 use Prim.Native.Nat.{ℕ, _+_, _≤_, _<_}
 use mathlib.Core.Path.{_≡_}
-use mathlib.Core.List.{List}
+use mathlib.Core.List.{List, [], _∷_, _++_}
 use native.Mathlib.Omega.{arith}
+use lib.Dec.{leb, ltb}
 use borrow.Author.Tests.{lt-ltb, le-ltb, lt-leb}
-use Rattle.protocol.specs.Limits.{repeated, early}
-use Rattle.wire.specs.Message.{message-at}
-use Rattle.replica_model.specs.Layout.{cards, N-of}
-use Rattle.replica_model.specs.Calls.{not-taken, cards-known, take-on}
+use Rattle.protocol.specs.Limits.{repeated, early, implausible, bad-replica, unreadable}
+use Rattle.protocol.specs.Checks.{Check, or-else, AllPass}
+use Rattle.protocol.specs.ChecksLaws.{all-append, refused-at}
+use Rattle.protocol.specs.Acceptance.{cards-known, plausible}
+use Rattle.protocol.specs.Chassis.{counter-of}
+use Rattle.wire.specs.Message.{message-at, reads}
+use Rattle.replica_model.specs.Layout.{cards, own-card, C-of, N-of}
+use Rattle.replica_model.specs.LayoutLaws.{same-cards, same-counters, same-own}
+use Rattle.replica_model.specs.Format.{content, received-of, format-1}
+use Rattle.replica_model.specs.Calls.{right, address-checks, not-taken, taken-with, take-with, take-on}
 use Rattle.replica_model.specs.ClaimTerms.{Addressed}
-use Rattle.replica_model.specs.Exact.{refusal-given, take-decided}
-use Rattle.replica_model.specs.Receivers.{taking-facts}
+use Rattle.replica_model.specs.CallsLaws.{take-decided}
+use Rattle.replica_model.specs.Receivers.{taking-facts, take-passes, content-counter}
 use Rattle.replica_model.specs.AcceptedCalls.{take-move, move-keeps, move-moves}
 
-pub old-refused : (b bytes : List ℕ) → Addressed b bytes → message-at bytes .sequence ≤ N-of (cards b) b (message-at bytes .sender) → take-on b bytes ≡ not-taken repeated b
-old-refused b bytes a l =
-    refusal-given (take-decided b bytes) repeated (λ e. omega arith)
-    (a .replica, (a .message, (lt-ltb _ _ (a .counter), (a .row, (a .known, le-ltb _ _ l)))))
+module _ (b bytes : List ℕ) where
+  -- before the sequence is looked at
+  abbrev first-checks : List Check
+  first-checks = or-else (right b) bad-replica ∷ or-else (reads bytes) unreadable ∷ address-checks b (received-of (message-at bytes))
 
-pub early-refused : (b bytes : List ℕ) → Addressed b bytes → N-of (cards b) b (message-at bytes .sender) + 1 < message-at bytes .sequence → take-on b bytes ≡ not-taken early b
-early-refused b bytes a l =
-    let above : N-of (cards b) b (message-at bytes .sender) < message-at bytes .sequence = omega arith in
-    refusal-given (take-decided b bytes) early (λ e. omega arith)
-    (a .replica, (a .message, (lt-ltb _ _ (a .counter), (a .row, (a .known, (lt-ltb _ _ above, lt-leb _ _ l))))))
+  abbrev N : ℕ
+  N = N-of (cards b) b (message-at bytes .sender)
+
+  abbrev last-check : Check
+  last-check = or-else (plausible (C-of b) (own-card b) (message-at bytes .sender) (content (message-at bytes))) implausible
+
+  pub old-refused : Addressed b bytes → message-at bytes .sequence ≤ N → take-on b bytes ≡ not-taken repeated b
+  unfolding take-with
+  old-refused a l =
+      refused-at (λ n. not-taken n b) (taken-with b (received-of (message-at bytes))) first-checks (or-else (ltb N (message-at bytes .sequence)) repeated)
+      (or-else (leb (message-at bytes .sequence) (N + 1)) early ∷ last-check ∷ []) a (le-ltb _ _ l)
+
+  pub early-refused : Addressed b bytes → N + 1 < message-at bytes .sequence → take-on b bytes ≡ not-taken early b
+  unfolding take-with
+  early-refused a l =
+      let next : Check = or-else (ltb N (message-at bytes .sequence)) repeated in
+      let above : N < message-at bytes .sequence = omega arith in
+      refused-at (λ n. not-taken n b) (taken-with b (received-of (message-at bytes))) (first-checks ++ (next ∷ [])) (or-else (leb (message-at bytes .sequence) (N + 1)) early)
+      (last-check ∷ []) (all-append first-checks (next ∷ []) a (lt-ltb _ _ above, tt)) (lt-leb _ _ l)
 
 module _ (b bytes : List ℕ) (h : take-on b bytes .answer .number ≡ 0) where
   still-addressed : Addressed (take-on b bytes .words) bytes
   unfolding cards-known
   still-addressed =
-      let (h₁, (h₆, (h₃, (h₂, (h₇, _))))) = take-decided b bytes .exact 0 .0 h in
+      let (h₁, (h₆, (h₃, (h₂, (h₇, _))))) = take-passes b bytes (take-decided format-1 b bytes .exact 0 .0 h) in
       let k = take-move b bytes h in
       let w = move-keeps b _ _ _ _ k in
-      record {
-        replica = w .right-kept h₁;
-        message = h₆;
-        counter = rw (k .performed .same-counters) (k .below);
-        row = w .rows-kept (message-at bytes .counter) (k .below) h₂;
-        known = rw (k .performed .same-cards, k .performed .same-own) h₇;
-      }
+      let same = k .performed .same-head in
+      let same-counter = content-counter (message-at bytes) in (
+        w .right-kept h₁,
+        (h₆, (rw (same-counters b _ same) h₃, (w .rows-kept (counter-of (content (message-at bytes))) (rw same-counter (k .below)) h₂, (rw (same-cards b _ same, same-own b _ same) h₇, tt)))),
+      )
 
   pub again-refused : take-on (take-on b bytes .words) bytes ≡ not-taken repeated (take-on b bytes .words)
   again-refused =
       let k = take-move b bytes h in
       let rises = move-moves b _ _ _ _ k .N-rises in
-      let next = taking-facts b bytes (take-decided b bytes .exact 0 .0 h) .next in
-      old-refused (take-on b bytes .words) bytes still-addressed (rw (k .performed .same-cards) (omega arith))
+      let next = taking-facts b bytes (take-passes b bytes (take-decided format-1 b bytes .exact 0 .0 h)) .next in
+      old-refused (take-on b bytes .words) bytes still-addressed (rw (same-cards b _ (k .performed .same-head)) (omega arith))

@@ -14,7 +14,7 @@ use Rattle.protocol.specs.declared.ClearEntry.{ClearEntry}
 use Rattle.protocol.specs.Entry.{present, larger, removeIf, raised, finished, incremented, lowered, settled, cleared}
 use Rattle.protocol.specs.EntryLaws.{WellFormed}
 use Rattle.protocol.specs.Chassis.{Message, increment, clearing, Replica, cleared-row, taken}
-use Rattle.replica_model.specs.ClaimTerms.{WellFormedRow}
+use Rattle.protocol.specs.Rows.{WellFormedRow}
 
 -- ---- a message that fits: its sender is s, the receiver's own card is `own`, its numbers of increments are C
 
@@ -76,8 +76,8 @@ cleared-kept p c known e some p≤c c≤MAX w = by-tests (present e) (ltb known 
 -- ---- a row
 
 module _ (r own : ℕ) where
-  put-kept : (C N : ℕ → ℕ) (row : ℕ → Entry) (j : ℕ) (e : Entry) → WellFormed MAX e → (j ≡ own → e .c ≤ C own) → WellFormedRow r own C N row
-      → WellFormedRow r own C N (put j e row)
+  put-kept : (C N : ℕ → ℕ) (row : ℕ → Entry) (j : ℕ) (e : Entry) → WellFormed MAX e → (j ≡ own → e .c ≤ C own) → WellFormedRow MAX r own C N row
+      → WellFormedRow MAX r own C N (put j e row)
   put-kept C N row j e w o k = record {
     C≤N = k .C≤N;
     N≤MAX = k .N≤MAX;
@@ -85,8 +85,8 @@ module _ (r own : ℕ) where
     own≤C = put-cases (λ x. x .c ≤ C own) j e row own (λ a. o (omega arith)) (λ _. k .own≤C);
   }
 
-  cleared-row-kept : (C N : ℕ → ℕ) (ts : List ClearEntry) (row : ℕ → Entry) → FittingEntries r own C ts → WellFormedRow r own C N row
-      → WellFormedRow r own C N (cleared-row C ts row)
+  cleared-row-kept : (C N : ℕ → ℕ) (ts : List ClearEntry) (row : ℕ → Entry) → FittingEntries r own C ts → WellFormedRow MAX r own C N row
+      → WellFormedRow MAX r own C N (cleared-row C ts row)
   unfolding cleared-row
   cleared-row-kept C N [] row f k = k
   cleared-row-kept C N (t ∷ ts) row (f, fs) k =
@@ -96,7 +96,7 @@ module _ (r own : ℕ) where
 
   -- a message more of card s, and perhaps an increment more
   counted : (C N C′ : ℕ → ℕ) (row : ℕ → Entry) (s : ℕ) → own < r → s < r → N s < MAX
-      → ((j : ℕ) → j ≢ s → C′ j ≡ C j) → C s ≤ C′ s → C′ s ≤ C s + 1 → WellFormedRow r own C N row → WellFormedRow r own C′ (put s (suc (N s)) N) row
+      → ((j : ℕ) → j ≢ s → C′ j ≡ C j) → C s ≤ C′ s → C′ s ≤ C s + 1 → WellFormedRow MAX r own C N row → WellFormedRow MAX r own C′ (put s (suc (N s)) N) row
   counted C N C′ row s o hs few same more most k = record {
     C≤N = λ j l. at j l .1;
     N≤MAX = λ j l. at j l .2;
@@ -113,14 +113,14 @@ module _ (r own : ℕ) where
   -- ---- Algorithm 1's step: every row that is well-formed stays so, the message's own and the others
 
   pub taken-kept : (s : ℕ) (m : Message) (b : Replica) → own < r → s < r → b .N s < MAX → Fitting r own s (b .C) m
-      → (q : ℕ) → WellFormedRow r own (b .C) (b .N) (b .entry q) → WellFormedRow r own (taken s m b .C) (taken s m b .N) (taken s m b .entry q)
+      → (q : ℕ) → WellFormedRow MAX r own (b .C) (b .N) (b .entry q) → WellFormedRow MAX r own (taken s m b .C) (taken s m b .N) (taken s m b .entry q)
   unfolding taken
   taken-kept s (increment q w p start) b o hs few (one, some, near) q′ k =
       by-place q′ q
       (λ e. rw (put-at q _ (b .entry) q′ e, ← e) (put-kept _ _ (b .entry q′) s _ (x .0) (λ d. rw (← d) (rw put-same (x .1 (rw d (k .own≤C))))) more))
       (λ d. rw (put-other q _ (b .entry) q′ d) more)
     where
-      more : WellFormedRow r own (put s (b .C s + w) (b .C)) (put s (suc (b .N s)) (b .N)) (b .entry q′)
+      more : WellFormedRow MAX r own (put s (b .C s + w) (b .C)) (put s (suc (b .N s)) (b .N)) (b .entry q′)
       more = counted (b .C) (b .N) _ (b .entry q′) s o hs few (put-other s (b .C s + w) (b .C)) (rw put-same (omega arith)) (rw put-same (omega arith)) k
 
       x : WellFormed MAX (incremented w p start (b .C s) (b .entry q′ s)) × (b .entry q′ s .c ≤ b .C s → incremented w p start (b .C s) (b .entry q′ s) .c ≤ b .C s + w)
@@ -130,5 +130,5 @@ module _ (r own : ℕ) where
       (λ e. rw (put-at q _ (b .entry) q′ e, ← e) (more _ (cleared-row-kept (b .C) (b .N) ts (b .entry q′) f k)))
       (λ d. rw (put-other q _ (b .entry) q′ d) (more _ k))
     where
-      more : (row : ℕ → Entry) → WellFormedRow r own (b .C) (b .N) row → WellFormedRow r own (b .C) (put s (suc (b .N s)) (b .N)) row
+      more : (row : ℕ → Entry) → WellFormedRow MAX r own (b .C) (b .N) row → WellFormedRow MAX r own (b .C) (put s (suc (b .N s)) (b .N)) row
       more row = counted (b .C) (b .N) (b .C) row s o hs few (λ j d. refl) (omega arith) (omega arith)

@@ -1,11 +1,12 @@
--- CLAIMS. Worked examples, computed: document 01's first increment, clears of 0, 1 and 16 entries, and bytes that do not read.
+-- CLAIMS. Worked examples, computed: the first increment of SPECIFICATION 10, clears of no entry, of one and of the most, and bytes that do not read.
 use mathlib.Core.Path.{_≡_, refl}
 use mathlib.Core.List.{List, [], _∷_, _++_}
 use Prim.Native.Nat.{ℕ, zero, suc, _+_}
 use lib.ListN.{length}
+use Rattle.protocol.specs.Limits.{most-cards, unreadable}
 use Rattle.protocol.specs.declared.ClearEntry.{ClearEntry}
 use Rattle.wire.specs.Number.{number-at, bytes-of}
-use Rattle.wire.specs.Message.{Message, message-bytes, header-bytes, increment-bytes, entry-bytes, entries-bytes, clear-bytes, header-in-range, increment-in-range, clear-in-range, entry-in-range, entries-in-range, unused, in-range, increment-message, clear-message, entries-at, called-length, message-at, reads, read-message, no-message, front-length}
+use Rattle.wire.specs.Message.{Message, increment-length, longest-message, message-bytes, header-bytes, increment-bytes, entry-bytes, entries-bytes, clear-bytes, header-in-range, increment-in-range, clear-in-range, entry-in-range, entries-in-range, unused, in-range, increment-message, clear-message, entries-at, called-length, message-at, reads, read-message, no-message, front-length}
 
 -- "Card 0's first increment on counter 0, in hexadecimal:
 --  00000001 00000001 00000000 0000000000000001 00000000 0000000000000001 00000001."
@@ -27,11 +28,11 @@ pub first-reads : read-message first ≡ record { number = 0; message = incremen
 unfolding first read-message reads called-length message-at in-range header-in-range increment-in-range entries-in-range unused number-at increment-message
 first-reads = refl
 
-pub first-longer : read-message (first ++ 0 ∷ []) ≡ record { number = 6; message = no-message }
+pub first-longer : read-message (first ++ 0 ∷ []) ≡ record { number = unreadable; message = no-message }
 unfolding first read-message reads called-length message-at in-range header-in-range increment-in-range entries-in-range unused number-at increment-message
 first-longer = refl
 
-pub first-in-front : front-length (first ++ 7 ∷ 7 ∷ []) ≡ 36
+pub first-in-front : front-length (first ++ 7 ∷ 7 ∷ []) ≡ increment-length
 unfolding first front-length reads called-length message-at in-range header-in-range increment-in-range entries-in-range unused number-at increment-message
 first-in-front = refl
 
@@ -53,10 +54,10 @@ pub clear-of-one : message-bytes (clear-message 15 1 0 (record { card = 2; p = 3
 unfolding message-bytes clear-bytes header-bytes entries-bytes entry-bytes bytes-of clear-message
 clear-of-one = refl
 
-pub clear-of-sixteen : read-message (message-bytes (a-clear 16)) ≡ record { number = 0; message = a-clear 16 }
+pub clear-of-most : read-message (message-bytes (a-clear most-cards)) ≡ record { number = 0; message = a-clear most-cards }
 unfolding a-clear entries-to message-bytes clear-bytes header-bytes entries-bytes entry-bytes bytes-of clear-message read-message reads called-length message-at in-range header-in-range clear-in-range entry-in-range entries-in-range unused entries-at number-at increment-message
-clear-of-sixteen = refl
+clear-of-most = refl
 
-pub sixteen-is-348-long : length (message-bytes (a-clear 16)) ≡ 348
+pub clear-of-most-is-longest : length (message-bytes (a-clear most-cards)) ≡ longest-message
 unfolding a-clear entries-to message-bytes clear-bytes header-bytes entries-bytes entry-bytes bytes-of clear-message
-sixteen-is-348-long = refl
+clear-of-most-is-longest = refl

@@ -1,8 +1,14 @@
+-- Messages as bytes, and bytes as messages. Each file says in its first line what it is: DEFINITIONS and CLAIMS are what a reader has to believe, and
+-- LAWS are what the proofs cite. Read `Message` and `Claims` first.
+
+-- DEFINITIONS
 pub mod Number
 pub mod Message
 pub mod MessageParts
-pub mod Ranges
-pub mod StoredLists
+-- CLAIMS
+pub mod Claims
+pub mod Examples
+-- LAWS
 pub mod NumberLaws
 pub mod RangeLaws
 pub mod EntriesLaws
@@ -11,5 +17,3 @@ pub mod WriteLaws
 pub mod MessageLaws
 pub mod MessagePartsLaws
 pub mod RoundTrips
-pub mod Claims
-pub mod Examples

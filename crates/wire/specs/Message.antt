@@ -1,4 +1,4 @@
--- DEFINITIONS. One message: its bytes, the ranges of its fields, what bytes read as and what writing it leaves (document 01, "Message").
+-- DEFINITIONS. One message: its bytes, the ranges of its fields, what bytes read as and what writing it leaves (SPECIFICATION 2).
 -- A message has one form only as a struct: what its kind does not use is 0, and so are the entries past its length.
 use Prim.Native.Nat.{ℕ, zero, suc, _+_, _-_, _*_}
 use mathlib.Core.List.{List, [], _∷_, _++_}
@@ -6,8 +6,9 @@ use mathlib.Core.Bool.{Bool, true, cond, _&&_, _||_}
 use lib.ListN.{length, getD, take, drop, replicate}
 use lib.Dec.{leb, ltb, eqb}
 use Rattle.protocol.specs.Limits.{MAX, most-cards, most-counters, short-output, unreadable}
+use Rattle.protocol.specs.Checks.{checked, or-else, Check}
 use Rattle.protocol.specs.declared.ClearEntry.{ClearEntry}
-use Rattle.wire.specs.Number.{unsigned-int, unsigned-hyper, int-at, hyper-at}
+use Rattle.wire.specs.Number.{int-width, hyper-width, unsigned-int, unsigned-hyper, int-at, hyper-at}
 pub use Rattle.wire.specs.declared.Message.{Message}
 pub use Rattle.wire.specs.declared.Reading.{Reading}
 pub use Rattle.wire.specs.declared.Written.{Written}
@@ -31,6 +32,10 @@ header-length = 24
 abbrev pub increment-length : ℕ
 increment-length = 36
 
+-- what an increment has behind its header
+abbrev pub increment-body-length : ℕ
+increment-body-length = increment-length - header-length
+
 abbrev pub entry-length : ℕ
 entry-length = 20
 
@@ -38,24 +43,68 @@ entry-length = 20
 abbrev pub clear-length : ℕ → ℕ
 clear-length e = 28 + entry-length * e
 
+abbrev pub shortest-message : ℕ
+shortest-message = clear-length 0
+
 abbrev pub longest-message : ℕ
 longest-message = clear-length most-cards
 
+-- of a message of a kind, with e entries if it is a clear
+abbrev pub length-of : ℕ → ℕ → ℕ
+length-of kind e = cond (eqb kind clear-kind) (clear-length e) increment-length
+
+-- ---- where the fields stand, the version first: each where the one before it ends
+
+abbrev pub kind-at : ℕ
+kind-at = int-width
+
+abbrev pub sender-at : ℕ
+sender-at = kind-at + int-width
+
+abbrev pub sequence-at : ℕ
+sequence-at = sender-at + int-width
+
+abbrev pub counter-at : ℕ
+counter-at = sequence-at + hyper-width
+
+-- behind the header: of an increment its p and its start, of a clear its length word and its entries
+abbrev pub p-at : ℕ
+p-at = header-length
+
+abbrev pub start-at : ℕ
+start-at = p-at + hyper-width
+
+abbrev pub count-at : ℕ
+count-at = header-length
+
+abbrev pub first-entry-at : ℕ
+first-entry-at = clear-length 0
+
+-- within an entry, the card first
+abbrev pub entry-p-at : ℕ
+entry-p-at = int-width
+
+abbrev pub entry-c-at : ℕ
+entry-c-at = entry-p-at + hyper-width
+
 -- ---- the bytes: "Big-endian, fields in this order"
 
--- "version; kind; sender (unsigned int); sequence (unsigned hyper); counter (unsigned int)": 24 bytes
-unfoldable pub header-bytes : Message → List ℕ
-header-bytes m =
-    unsigned-int (m .version) ++ unsigned-int (m .kind) ++ unsigned-int (m .sender) ++ unsigned-hyper (m .sequence) ++ unsigned-int (m .counter)
+-- "version (unsigned int .. kind (enum .. sender (unsigned int .. sequence (unsigned hyper .. counter (unsigned int"
+abbrev pub header-bytes-of : (version kind sender sequence counter : ℕ) → List ℕ
+header-bytes-of version kind sender sequence counter =
+    unsigned-int version ++ unsigned-int kind ++ unsigned-int sender ++ unsigned-hyper sequence ++ unsigned-int counter
 
--- "Increment: p (unsigned hyper), start (bool). 36 bytes."
+unfoldable pub header-bytes : Message → List ℕ
+header-bytes m = header-bytes-of (m .version) (m .kind) (m .sender) (m .sequence) (m .counter)
+
+-- "Increment: p (unsigned hyper .. start (bool .. 36 bytes."
 unfoldable pub increment-bytes : Message → List ℕ
 increment-bytes m = header-bytes m ++ unsigned-hyper (m .p) ++ unsigned-int (m .start)
 
 abbrev pub no-entry : ClearEntry
 no-entry = record { card = 0; p = 0; c = 0 }
 
--- "Each entry is card (unsigned int), p and c (unsigned hypers)": 20 bytes
+-- "Each entry is card (unsigned int .. p and c (unsigned hypers"
 unfoldable pub entry-bytes : ClearEntry → List ℕ
 entry-bytes e = unsigned-int (e .card) ++ unsigned-hyper (e .p) ++ unsigned-hyper (e .c)
 
@@ -64,7 +113,7 @@ unfoldable pub entries-bytes : ℕ → List ClearEntry → List ℕ
 entries-bytes zero es = []
 entries-bytes (suc count) es = entries-bytes count es ++ entry-bytes (getD es count no-entry)
 
--- "Clear: a variable array of e entries, its length word first. 28 + 20e bytes."
+-- "Clear: a variable array of e entries .. its length word first .. 28 + 20e bytes."
 unfoldable pub clear-bytes : Message → List ℕ
 clear-bytes m = header-bytes m ++ unsigned-int (m .len) ++ entries-bytes (m .len) (m .entries)
 
@@ -72,24 +121,32 @@ unfoldable pub message-bytes : Message → List ℕ
 message-bytes m = cond (eqb (m .kind) clear-kind) (clear-bytes m) (increment-bytes m)
 
 abbrev pub message-length : Message → ℕ
-message-length m = cond (eqb (m .kind) clear-kind) (28 + 20 * m .len) 36
+message-length m = length-of (m .kind) (m .len)
 
 -- ---- the ranges
 
--- "sender 0 to 15; sequence 1 to MAX; counter 0 to 63"
-unfoldable pub header-in-range : Message → Bool
-header-in-range m =
-    eqb (m .version) version-1 && ltb (m .sender) most-cards && leb 1 (m .sequence) && leb (m .sequence) MAX && ltb (m .counter) most-counters
+abbrev pub from-one-to : ℕ → ℕ → Bool
+from-one-to most x = leb 1 x && leb x most
 
--- "p 1 to MAX, start 0 or 1"
-unfoldable pub increment-in-range : Message → Bool
-increment-in-range m = leb 1 (m .p) && leb (m .p) MAX && leb (m .start) 1 && eqb (m .len) 0
+-- "sender (unsigned int, 0 to 15) .. sequence (unsigned hyper, 1 to MAX .. counter (unsigned int, 0 to 63)"
+unfoldable pub header-in-range : (version sender sequence counter : ℕ) → Bool
+header-in-range version sender sequence counter =
+    eqb version version-1 && ltb sender most-cards && from-one-to MAX sequence && ltb counter most-counters
+
+-- "p (unsigned hyper, 1 to MAX), start (bool, 0 or 1)"
+unfoldable pub increment-in-range : (p start len : ℕ) → Bool
+increment-in-range p start len = from-one-to MAX p && leb start 1 && eqb len 0
 
 -- "e from 0 to 16"
-unfoldable pub clear-in-range : Message → Bool
-clear-in-range m = eqb (m .p) 0 && eqb (m .start) 0 && leb (m .len) most-cards
+unfoldable pub clear-in-range : (p start len : ℕ) → Bool
+clear-in-range p start len = eqb p 0 && eqb start 0 && leb len most-cards
 
--- "card 0 to 15, 1 <= p <= c <= MAX"; the card is `low` or above
+-- behind the header, by the kind
+abbrev pub body-in-range : (kind p start len : ℕ) → Bool
+body-in-range kind p start len =
+    cond (eqb kind increment-kind) (increment-in-range p start len) (eqb kind clear-kind && clear-in-range p start len)
+
+-- "card (unsigned int, 0 to 15), p and c (unsigned hypers, 1 <= p <= c <= MAX)"; the card is `low` or above
 unfoldable pub entry-in-range : ℕ → ClearEntry → Bool
 entry-in-range low e = leb low (e .card) && ltb (e .card) most-cards && leb 1 (e .p) && leb (e .p) (e .c) && leb (e .c) MAX
 
@@ -99,21 +156,24 @@ entries-in-range low [] = true
 entries-in-range low (e ∷ es) = entry-in-range low e && entries-in-range (e .card + 1) es
 
 -- entries past the length
+abbrev pub entry-unused : ClearEntry → Bool
+entry-unused e = eqb (e .card) 0 && eqb (e .p) 0 && eqb (e .c) 0
+
 unfoldable pub unused : List ClearEntry → Bool
 unused [] = true
-unused (e ∷ es) = eqb (e .card) 0 && eqb (e .p) 0 && eqb (e .c) 0 && unused es
+unused (e ∷ es) = entry-unused e && unused es
 
 unfoldable pub in-range : Message → Bool
 in-range m =
-    header-in-range m
-    && cond (eqb (m .kind) increment-kind) (increment-in-range m) (eqb (m .kind) clear-kind && clear-in-range m)
+    header-in-range (m .version) (m .sender) (m .sequence) (m .counter)
+    && body-in-range (m .kind) (m .p) (m .start) (m .len)
     && entries-in-range 0 (take (m .len) (m .entries))
     && unused (drop (m .len) (m .entries))
 
 -- ---- reading
 
 -- the two kinds of message, from their fields
-unfoldable pub increment-message : ℕ → ℕ → ℕ → ℕ → ℕ → Message
+unfoldable pub increment-message : (sender sequence counter p start : ℕ) → Message
 increment-message sender sequence counter p start = record {
   version = version-1;
   kind = increment-kind;
@@ -123,10 +183,10 @@ increment-message sender sequence counter p start = record {
   p = p;
   start = start;
   len = 0;
-  entries = replicate 16 no-entry;
+  entries = replicate most-cards no-entry;
 }
 
-unfoldable pub clear-message : ℕ → ℕ → ℕ → List ClearEntry → Message
+unfoldable pub clear-message : (sender sequence counter : ℕ) → List ClearEntry → Message
 clear-message sender sequence counter es = record {
   version = version-1;
   kind = clear-kind;
@@ -136,33 +196,37 @@ clear-message sender sequence counter es = record {
   p = 0;
   start = 0;
   len = length es;
-  entries = es ++ replicate (16 - length es) no-entry;
+  entries = es ++ replicate (most-cards - length es) no-entry;
 }
 
 abbrev pub entry-at : List ℕ → ℕ → ClearEntry
-entry-at s at = record { card = int-at s at; p = hyper-at s (at + 4); c = hyper-at s (at + 12) }
+entry-at s at = record { card = int-at s at; p = hyper-at s (at + entry-p-at); c = hyper-at s (at + entry-c-at) }
 
--- `count` entries of 20 bytes each, from `at` on
+-- `count` entries, one after the other from `at` on
 unfoldable pub entries-at : ℕ → List ℕ → ℕ → List ClearEntry
 entries-at zero s at = []
-entries-at (suc count) s at = entry-at s at ∷ entries-at count s (at + 20)
+entries-at (suc count) s at = entry-at s at ∷ entries-at count s (at + entry-length)
+
+-- the increment and the clear whose fields stand in the bytes, whatever the version, the kind and the ranges
+abbrev pub increment-in : List ℕ → Message
+increment-in s = increment-message (int-at s sender-at) (hyper-at s sequence-at) (int-at s counter-at) (hyper-at s p-at) (int-at s start-at)
+
+abbrev pub clear-in : List ℕ → Message
+clear-in s = clear-message (int-at s sender-at) (hyper-at s sequence-at) (int-at s counter-at) (entries-at (int-at s count-at) s first-entry-at)
+
+-- the one that the kind asks for
+unfoldable pub message-at : List ℕ → Message
+message-at s = cond (eqb (int-at s kind-at) clear-kind) (clear-in s) (increment-in s)
 
 -- the length that the kind and the length word ask for
 unfoldable pub called-length : List ℕ → ℕ
-called-length s = cond (eqb (int-at s 4) clear-kind) (28 + 20 * int-at s 24) 36
-
--- the message whose fields stand in the bytes, whatever the version, the kind and the ranges
-unfoldable pub message-at : List ℕ → Message
-message-at s =
-    cond (eqb (int-at s 4) clear-kind)
-    (clear-message (int-at s 8) (hyper-at s 12) (int-at s 20) (entries-at (int-at s 24) s 28))
-    (increment-message (int-at s 8) (hyper-at s 12) (int-at s 20) (hyper-at s 24) (int-at s 32))
+called-length s = length-of (int-at s kind-at) (int-at s count-at)
 
 -- "Bytes read only if every field is in range and the length is exact."
 unfoldable pub reads : List ℕ → Bool
 reads s =
     eqb (int-at s 0) version-1
-    && (eqb (int-at s 4) increment-kind || eqb (int-at s 4) clear-kind)
+    && (eqb (int-at s kind-at) increment-kind || eqb (int-at s kind-at) clear-kind)
     && eqb (length s) (called-length s)
     && in-range (message-at s)
 
@@ -176,13 +240,18 @@ no-message = record {
   p = 0;
   start = 0;
   len = 0;
-  entries = replicate 16 no-entry;
+  entries = replicate most-cards no-entry;
 }
 
--- number 0 with the message, or 6 with zeros
+abbrev pub read-declined : ℕ → Reading
+read-declined number = record { number = number; message = no-message }
+
+-- reading one alone: "6"
+abbrev pub read-checks : List ℕ → List Check
+read-checks s = or-else (reads s) unreadable ∷ []
+
 unfoldable pub read-message : List ℕ → Reading
-read-message s =
-    cond (reads s) (record { number = 0; message = message-at s }) (record { number = unreadable; message = no-message })
+read-message s = checked read-declined (read-checks s) (record { number = 0; message = message-at s })
 
 -- the length of the message that a longer list of bytes starts with, 0 where it starts with none that reads
 unfoldable pub front-length : List ℕ → ℕ
@@ -202,11 +271,13 @@ write-declined number out = record { answer = record { number = number; length =
 abbrev pub over : List ℕ → List ℕ → List ℕ
 over bytes out = bytes ++ drop (length bytes) out
 
--- "writing one: 6, 5"
+-- writing one alone: "6, 5"
+abbrev pub write-checks : Message → List ℕ → List Check
+write-checks m out = or-else (in-range m) unreadable ∷ or-else (leb (message-length m) (length out)) short-output ∷ []
+
+abbrev pub written : Message → List ℕ → WriteOutcome
+written m out = record { answer = record { number = 0; length = message-length m }; out = over (message-bytes m) out }
+
 unfoldable pub write-message : Message → List ℕ → WriteOutcome
 write-message m out =
-    cond (in-range m)
-    (cond (leb (message-length m) (length out))
-    (record { answer = record { number = 0; length = message-length m }; out = over (message-bytes m) out })
-    (write-declined short-output out))
-    (write-declined unreadable out)
+    checked (λ number. write-declined number out) (write-checks m out) (written m out)

@@ -1,4 +1,4 @@
--- LAWS. The ranges over plain numbers: a range from one tested by one comparison of a wrapped difference, and the tests of an entry.
+-- LAWS. Ranges as the code tests them: one that starts at 1 by one comparison of a wrapped difference, and an entry a range at a time.
 use mathlib.Core.Path.{_≡_, sym, _∙_}
 use mathlib.Core.Bool.{Bool, _&&_, and-assoc}
 use Prim.Native.Nat.{ℕ, suc, _+_, _%_, _^_, _<_}
@@ -7,7 +7,7 @@ use native.Mathlib.Omega.{arith}
 use lib.Dec.{leb, ltb}
 use borrow.Author.Tests.{lt-ltb, le-ltb, le-leb, lt-leb}
 use Rattle.protocol.specs.Cases.{by-le}
-use Rattle.wire.specs.Ranges.{from-one-to}
+use Rattle.wire.specs.Message.{from-one-to}
 
 -- r is x - 1 in 64 bits: 0 wraps past every bound
 pub wrapped-below : (r x most : ℕ) → r < 2 ^ 64 → most < 2 ^ 64 → (r + 1) % 2 ^ 64 ≡ x → ltb r most ≡ from-one-to most x

@@ -1,33 +1,28 @@
 // Bytes to a message. Each part is read from the position that the part before it answered. The public calls are `read_message` and
-// `front_length`; `reads` and `called_length_of` are inner doors for callers that test the bytes first and hold no more of them than they need.
+// `front_length`; `reads` and `called_length_of` are internal functions, for callers that test the bytes first and hold no more of them than they need.
 use crate::CLEAR;
 use crate::EMPTY_CLEAR_BYTES;
-use crate::ENTRY_BYTES;
 use crate::INCREMENT;
 use crate::INCREMENT_BYTES;
+use crate::MOST_ENTRIES;
 use crate::Message;
+use crate::NO_ENTRY;
 use crate::Reading;
 use crate::VERSION;
+use crate::clear_length;
 use crate::range;
 use crate::reader;
 use crate::reader::Header;
-use protocol::ClearEntry;
 ghost use mathlib.Core.Path.{_≡_};
 ghost use mathlib.Core.Bool.{true};
 ghost use Prim.Native.Nat.{_+_, _*_, _≤_};
 ghost use lib.ListN.{length};
-ghost use Rattle.wire.specs.Message.{entries-at, entries-in-range, called-length, message-at, reads, read-message, front-length};
+ghost use Rattle.protocol.specs.Limits.{unreadable};
+ghost use Rattle.wire.specs.Message.{version-1, increment-kind, clear-kind, entry-length, shortest-message, entries-at, entries-in-range, called-length, message-at, reads, read-declined, read-message, front-length};
 ghost use Rattle.wire.specs.MessageParts.{header-at};
-ghost use Rattle.wire.specs.MessageLaws.{refused};
-
-const NO_ENTRY: ClearEntry = ClearEntry {
-    card: 0,
-    p: 0,
-    c: 0,
-};
 
 fn does_increment_read(bytes: &[u8], header: Header) -> bool
-    requires { ⌜ (header ≡ header-at (now bytes) 0) × (header .version ≡ 1) × (header .kind ≡ 1) ⌝ }
+    requires { ⌜ (header ≡ header-at (now bytes) 0) × (header .version ≡ version-1) × (header .kind ≡ increment-kind) ⌝ }
     ensures { λ a. ⌜ a ≡ reads (now (bytes .entry)) ⌝ }
 {
     if bytes.len() != INCREMENT_BYTES {
@@ -40,7 +35,7 @@ fn does_increment_read(bytes: &[u8], header: Header) -> bool
 
 // The entries from `at` on.
 fn are_entries_in_range(bytes: &[u8], at: usize, count: usize) -> bool
-    requires { ⌜ at + 20 * count ≤ length (now bytes) ⌝ }
+    requires { ⌜ at + entry-length * count ≤ length (now bytes) ⌝ }
     ensures { λ a. ⌜ a ≡ entries-in-range 0 (entries-at count (now (bytes .entry)) at) ⌝ }
 {
     let mut low: u64 = 0;
@@ -60,22 +55,22 @@ fn are_entries_in_range(bytes: &[u8], at: usize, count: usize) -> bool
 }
 
 fn does_clear_read(bytes: &[u8], header: Header) -> bool
-    requires { ⌜ (header ≡ header-at (now bytes) 0) × (header .version ≡ 1) × (header .kind ≡ 2) × (28 ≤ length (now bytes)) ⌝ }
+    requires { ⌜ (header ≡ header-at (now bytes) 0) × (header .version ≡ version-1) × (header .kind ≡ clear-kind) × (shortest-message ≤ length (now bytes)) ⌝ }
     ensures { λ a. ⌜ a ≡ reads (now (bytes .entry)) ⌝ }
 {
     let count = reader::next_int(bytes, header.behind);
     let len = count.number as usize;
-    if range::MOST_ENTRIES < len {
+    if MOST_ENTRIES < len {
         return false;
     }
-    if bytes.len() != EMPTY_CLEAR_BYTES + ENTRY_BYTES * len {
+    if bytes.len() != clear_length(len) {
         return false;
     }
     range::header_in_range(VERSION, header.sender, header.sequence, header.counter)
         & are_entries_in_range(bytes, count.behind, len)
 }
 
-// Inner door: whether the bytes are a message. It holds no message, so that a walk over a log costs no struct.
+// Whether the bytes are a message. It holds no message, so that testing those of a log costs no struct.
 // Ruled out: a test that takes another length than the message's (must-fail/increment_of_37_bytes), and one that takes a clear
 // whose cards do not rise (must-fail/cards_may_repeat).
 pub fn reads(bytes: &[u8]) -> bool
@@ -99,7 +94,7 @@ pub fn reads(bytes: &[u8]) -> bool
 
 // The message that bytes stand for, where they read.
 fn increment_message(bytes: &[u8], header: Header) -> Message
-    requires { ⌜ (reads (now bytes) ≡ true) × (header ≡ header-at (now bytes) 0) × (header .kind ≡ 2 → ⊥) ⌝ }
+    requires { ⌜ (reads (now bytes) ≡ true) × (header ≡ header-at (now bytes) 0) × (header .kind ≡ clear-kind → ⊥) ⌝ }
     ensures { λ m. ⌜ m ≡ message-at (now (bytes .entry)) ⌝ }
 {
     let body = reader::increment_from(bytes, header.behind);
@@ -112,13 +107,13 @@ fn increment_message(bytes: &[u8], header: Header) -> Message
         p: body.p,
         start: body.start,
         len: 0,
-        entries: [NO_ENTRY; range::MOST_ENTRIES],
+        entries: [NO_ENTRY; MOST_ENTRIES],
     }
 }
 
 // "Once read, a clear message is held whole, with all of its entries."
 fn clear_message(bytes: &[u8], header: Header) -> Message
-    requires { ⌜ (reads (now bytes) ≡ true) × (header ≡ header-at (now bytes) 0) × (header .kind ≡ 2) ⌝ }
+    requires { ⌜ (reads (now bytes) ≡ true) × (header ≡ header-at (now bytes) 0) × (header .kind ≡ clear-kind) ⌝ }
     ensures { λ m. ⌜ m ≡ message-at (now (bytes .entry)) ⌝ }
 {
     let count = reader::next_int(bytes, header.behind);
@@ -132,7 +127,7 @@ fn clear_message(bytes: &[u8], header: Header) -> Message
         p: 0,
         start: 0,
         len,
-        entries: [NO_ENTRY; range::MOST_ENTRIES],
+        entries: [NO_ENTRY; MOST_ENTRIES],
     };
     let mut place = count.behind;
     let mut i: usize = 0;
@@ -157,7 +152,7 @@ fn message_from(bytes: &[u8], header: Header) -> Message
 }
 
 fn refuse() -> Reading
-    ensures { λ r. ⌜ r ≡ refused ⌝ }
+    ensures { λ r. ⌜ r ≡ read-declined unreadable ⌝ }
 {
     let message = Message {
         version: 0,
@@ -168,7 +163,7 @@ fn refuse() -> Reading
         p: 0,
         start: 0,
         len: 0,
-        entries: [NO_ENTRY; range::MOST_ENTRIES],
+        entries: [NO_ENTRY; MOST_ENTRIES],
     };
     Reading {
         number: protocol::UNREADABLE,
@@ -176,7 +171,7 @@ fn refuse() -> Reading
     }
 }
 
-// The message that the bytes stand for, or number 6 and zeros.
+// The message that the bytes stand for, or `UNREADABLE` and zeros.
 // Ruled out: a reader that takes another length than the message's (must-fail/increment_of_37_bytes), and one that takes a clear
 // whose cards do not rise (must-fail/cards_may_repeat).
 pub fn read_message(bytes: &[u8]) -> Reading
@@ -189,17 +184,16 @@ pub fn read_message(bytes: &[u8]) -> Reading
     refuse()
 }
 
-// Inner door: the length that the kind and the length word ask for, where the header and that word are there.
+// The length that the kind and the length word ask for, where the header and that word are there.
 // Ruled out: a length that leaves the kind out of account, and one that is not the increment's (must-fail/increment_of_37_bytes).
 pub fn called_length_of(bytes: &[u8]) -> usize
-    requires { ⌜ 28 ≤ length (now bytes) ⌝ }
+    requires { ⌜ shortest-message ≤ length (now bytes) ⌝ }
     ensures { λ r. ⌜ r ≡ called-length (now (bytes .entry)) ⌝ }
 {
     let header = reader::header_from(bytes, 0);
     if header.kind == CLEAR {
         let count = reader::next_int(bytes, header.behind);
-        let len = count.number as usize;
-        return EMPTY_CLEAR_BYTES + ENTRY_BYTES * len;
+        return clear_length(count.number as usize);
     }
     INCREMENT_BYTES
 }

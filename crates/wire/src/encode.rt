@@ -1,50 +1,55 @@
-// A message to bytes. `write_message` tests before it writes, so a refusal leaves every byte.
+// A message to bytes. The public call is `write_message`: it tests before it writes, so a refusal leaves every byte. `put_increment`, `put_clear`
+// and `length_of` are internal functions, for callers that have made the message themselves and know that it is in range.
 use crate::CLEAR;
 use crate::EMPTY_CLEAR_BYTES;
 use crate::ENTRY_BYTES;
+use crate::HEADER_BYTES;
 use crate::INCREMENT;
 use crate::INCREMENT_BYTES;
+use crate::MOST_ENTRIES;
 use crate::Message;
 use crate::VERSION;
 use crate::Written;
+use crate::clear_length;
 use crate::number;
+use crate::number::HYPER_BYTES;
+use crate::number::INT_BYTES;
 use crate::range;
 use protocol::ClearEntry;
 ghost use mathlib.Core.Path.{_≡_};
-ghost use mathlib.Core.List.{_++_};
-ghost use mathlib.Core.Bool.{cond};
-ghost use Prim.Native.Nat.{_+_, _*_, _≤_};
-ghost use lib.Dec.{eqb};
+ghost use Prim.Native.Nat.{_≤_};
 ghost use lib.ListN.{length};
 ghost use lib.Seq.{sets};
-ghost use Rattle.wire.specs.Number.{unsigned-int, unsigned-hyper};
-ghost use Rattle.wire.specs.Message.{WriteOutcome, over, message-bytes, increment-message, write-message};
-ghost use Rattle.wire.specs.Ranges.{entry-fits};
+ghost use Rattle.protocol.specs.Limits.{most-cards};
+ghost use Rattle.wire.specs.Message.{clear-kind, header-length, increment-length, clear-length, length-of, WriteOutcome, over, header-bytes-of, message-bytes, increment-message, write-message};
+ghost use Rattle.wire.specs.EntriesLaws.{place-in-range};
 
-// Where the fields are written: an increment has p and start after the header, a clear its length word and its entries.
-const KIND_AT: usize = 4;
+// Where the fields are written, the version first: each where the one before it ends.
+const KIND_AT: usize = INT_BYTES;
 
-const SENDER_AT: usize = 8;
+const SENDER_AT: usize = KIND_AT + INT_BYTES;
 
-const SEQUENCE_AT: usize = 12;
+const SEQUENCE_AT: usize = SENDER_AT + INT_BYTES;
 
-const COUNTER_AT: usize = 20;
+const COUNTER_AT: usize = SEQUENCE_AT + HYPER_BYTES;
 
-const P_AT: usize = 24;
+// Behind the header: of an increment p and start, of a clear the length word and the entries.
+const P_AT: usize = HEADER_BYTES;
 
-const START_AT: usize = 32;
+const START_AT: usize = P_AT + HYPER_BYTES;
 
-const LEN_AT: usize = 24;
+const LEN_AT: usize = HEADER_BYTES;
 
-const ENTRIES_AT: usize = 28;
+const ENTRIES_AT: usize = EMPTY_CLEAR_BYTES;
 
-const ENTRY_P_AT: usize = 4;
+// Within an entry, the card first.
+const ENTRY_P_AT: usize = INT_BYTES;
 
-const ENTRY_C_AT: usize = 12;
+const ENTRY_C_AT: usize = ENTRY_P_AT + HYPER_BYTES;
 
 fn put_header(version: u32, kind: u32, sender: u32, sequence: u64, counter: u32, out: &mut [u8])
-    requires { ⌜ 24 ≤ length (now out) ⌝ }
-    ensures { λ _. ⌜ now (out .exit) ≡ sets (now (out .entry)) 0 (unsigned-int version ++ unsigned-int kind ++ unsigned-int sender ++ unsigned-hyper sequence ++ unsigned-int counter) ⌝ }
+    requires { ⌜ header-length ≤ length (now out) ⌝ }
+    ensures { λ _. ⌜ now (out .exit) ≡ sets (now (out .entry)) 0 (header-bytes-of version kind sender sequence counter) ⌝ }
 {
     number::write_u32(out, 0, version);
     number::write_u32(out, KIND_AT, kind);
@@ -53,10 +58,10 @@ fn put_header(version: u32, kind: u32, sender: u32, sequence: u64, counter: u32,
     number::write_u32(out, COUNTER_AT, counter);
 }
 
-// Inner door: writes an increment where there is room for it, whatever its numbers.
-// Ruled out: a number at another's place, and bytes past the 36 that change.
+// Writes an increment where there is room for it, whatever its numbers.
+// Ruled out: a number at another's place, and a byte past the increment that changes.
 pub fn put_increment(sender: u32, sequence: u64, counter: u32, p: u64, start: u32, out: &mut [u8])
-    requires { ⌜ 36 ≤ length (now out) ⌝ }
+    requires { ⌜ increment-length ≤ length (now out) ⌝ }
     ensures { λ _. ⌜ now (out .exit) ≡ over (message-bytes (increment-message sender sequence counter p start)) (now (out .entry)) ⌝ }
 {
     put_header(VERSION, INCREMENT, sender, sequence, counter, out);
@@ -64,10 +69,10 @@ pub fn put_increment(sender: u32, sequence: u64, counter: u32, p: u64, start: u3
     number::write_u32(out, START_AT, start);
 }
 
-// Inner door: writes a clear where there is room for it, whatever its numbers.
+// Writes a clear where there is room for it, whatever its numbers.
 // Ruled out: an entry written past the last (must-fail/entry_past_the_last), and entries left out.
 pub fn put_clear(m: Message, out: &mut [u8])
-    requires { ⌜ (m .kind ≡ 2) × (m .len ≤ 16) × (28 + 20 * m .len ≤ length (now out)) ⌝ }
+    requires { ⌜ (m .kind ≡ clear-kind) × (m .len ≤ most-cards) × (clear-length (m .len) ≤ length (now out)) ⌝ }
     ensures { λ _. ⌜ now (out .exit) ≡ over (message-bytes m) (now (out .entry)) ⌝ }
 {
     let len = m.len;
@@ -84,9 +89,9 @@ pub fn put_clear(m: Message, out: &mut [u8])
     }
 }
 
-// One of the sixteen places: in range where the length counts it, zeros where it does not.
+// One place of the array: in range where the length counts it, zeros where it does not.
 fn place_in_range(used: bool, low: u64, entry: ClearEntry) -> bool
-    ensures { λ r. ⌜ r ≡ entry-fits used low entry ⌝ }
+    ensures { λ r. ⌜ r ≡ place-in-range used low entry ⌝ }
 {
     if used {
         return range::entry_in_range(low, entry);
@@ -94,14 +99,14 @@ fn place_in_range(used: bool, low: u64, entry: ClearEntry) -> bool
     range::entry_unused(entry)
 }
 
-// Inner door: the length of a message of this kind with `len` entries.
-// Ruled out: a clear's length without its entries, and one that is not the increment's (must-fail/increment_of_37_bytes).
+// The length of a message of this kind with `len` entries.
+// Ruled out: a clear's length without its entries, and another length than the increment's (must-fail/increment_of_37_bytes).
 pub fn length_of(kind: u32, len: usize) -> usize
-    requires { ⌜ len ≤ 16 ⌝ }
-    ensures { λ r. ⌜ r ≡ cond (eqb kind 2) (28 + 20 * len) 36 ⌝ }
+    requires { ⌜ len ≤ most-cards ⌝ }
+    ensures { λ r. ⌜ r ≡ length-of kind len ⌝ }
 {
     if kind == CLEAR {
-        return EMPTY_CLEAR_BYTES + ENTRY_BYTES * len;
+        return clear_length(len);
     }
     INCREMENT_BYTES
 }
@@ -112,8 +117,8 @@ fn decline(number: u64) -> Written
     Written { number, length: 0 }
 }
 
-// Writes the message from the first byte on, or declines with number 6, then 5, and leaves every byte. A message has one form: what its kind does
-// not use is 0. Its places are tested here and not in a function that it is passed to, which would copy it.
+// Writes the message from the first byte on, or declines with `UNREADABLE`, then `SHORT_OUTPUT`, and leaves every byte. A message has one form: what
+// its kind does not use is 0. Its places are tested here and not in a function that it is passed to, which would copy it.
 // Ruled out: a writer that takes a message in another form than its one (must-fail/unused_not_zero), and one that touches a byte
 // past the message (must-fail/entry_past_the_last).
 pub fn write_message(m: Message, out: &mut [u8]) -> Written
@@ -126,7 +131,7 @@ pub fn write_message(m: Message, out: &mut [u8]) -> Written
     }
     let mut low: u64 = 0;
     let mut i: usize = 0;
-    while i < range::MOST_ENTRIES {
+    while i < MOST_ENTRIES {
         let entry = m.entries[i];
         if !place_in_range(i < len, low, entry) {
             return decline(protocol::UNREADABLE);

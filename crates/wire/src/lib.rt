@@ -1,5 +1,8 @@
-// The messages of document 01, read from bytes and written into the caller's bytes.
+// The messages of SPECIFICATION 2, read from bytes and written into the caller's bytes.
 use protocol::ClearEntry;
+ghost use mathlib.Core.Path.{_≡_};
+ghost use Prim.Native.Nat.{_<_, _^_};
+ghost use Rattle.wire.specs.Message.{clear-length};
 
 pub mod decode;
 pub mod encode;
@@ -14,14 +17,26 @@ pub const INCREMENT: u32 = 1;
 
 pub const CLEAR: u32 = 2;
 
-// The lengths of an increment, of a clear without entries and of an entry.
+// The lengths of a header, of an increment, of a clear without entries and of an entry.
+const HEADER_BYTES: usize = 24;
+
 pub const INCREMENT_BYTES: usize = 36;
 
 const EMPTY_CLEAR_BYTES: usize = 28;
 
 const ENTRY_BYTES: usize = 20;
 
-// A message held whole: kind 1 uses `p` and `start`, kind 2 the first `len` entries. What its kind does not use is zero.
+// A clear has at the most one entry for each card.
+pub const MOST_ENTRIES: usize = protocol::MOST_CARDS as usize;
+
+// What stands in the places that a message does not use.
+pub const NO_ENTRY: ClearEntry = ClearEntry {
+    card: 0,
+    p: 0,
+    c: 0,
+};
+
+// A message held whole: an increment uses `p` and `start`, a clear the first `len` entries. What its kind does not use is zero.
 #[repr(C)]
 pub struct Message {
     pub version: u32,
@@ -32,10 +47,10 @@ pub struct Message {
     pub p: u64,
     pub start: u32,
     pub len: usize,
-    pub entries: [ClearEntry; 16],
+    pub entries: [ClearEntry; MOST_ENTRIES],
 }
 
-// Number 0 with the message, or number 6 with zeros.
+// Number 0 with the message, or `UNREADABLE` with zeros.
 #[repr(C)]
 pub struct Reading {
     pub number: u64,
@@ -47,4 +62,12 @@ pub struct Reading {
 pub struct Written {
     pub number: u64,
     pub length: usize,
+}
+
+// The length of a clear with so many entries, as many as a length word can say.
+fn clear_length(entries: usize) -> usize
+    requires { ⌜ entries < 2 ^ 32 ⌝ }
+    ensures { λ r. ⌜ r ≡ clear-length entries ⌝ }
+{
+    EMPTY_CLEAR_BYTES + ENTRY_BYTES * entries
 }

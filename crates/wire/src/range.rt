@@ -1,20 +1,16 @@
 // The ranges of a message's fields, shared by reading and writing. Each function takes numbers or one entry, never the whole struct.
 use crate::CLEAR;
 use crate::INCREMENT;
+use crate::MOST_ENTRIES;
 use crate::VERSION;
 use protocol::ClearEntry;
 ghost use mathlib.Core.Path.{_≡_};
 ghost use Prim.Native.Nat.{_+_};
-ghost use mathlib.Core.Bool.{_&&_};
-ghost use lib.Dec.{eqb};
-ghost use Rattle.wire.specs.Message.{entry-in-range};
-ghost use Rattle.wire.specs.Ranges.{from-one-to, header-fits, body-fits};
+ghost use Rattle.wire.specs.Message.{from-one-to, header-in-range, body-in-range, entry-in-range, entry-unused};
 
 const MOST_CARDS: u32 = protocol::MOST_CARDS as u32;
 
 const MOST_COUNTERS: u32 = protocol::MOST_COUNTERS as u32;
-
-pub(crate) const MOST_ENTRIES: usize = protocol::MOST_CARDS as usize;
 
 // One comparison, 0 wrapping past every bound: compared with MAX directly, a word just read from bytes would be read by halves.
 fn from_one(x: u64, most: u64) -> bool
@@ -24,7 +20,7 @@ fn from_one(x: u64, most: u64) -> bool
 }
 
 pub(crate) fn header_in_range(version: u32, sender: u32, sequence: u64, counter: u32) -> bool
-    ensures { λ r. ⌜ r ≡ header-fits version sender sequence counter ⌝ }
+    ensures { λ r. ⌜ r ≡ header-in-range version sender sequence counter ⌝ }
 {
     (version == VERSION)
         & (sender < MOST_CARDS)
@@ -34,7 +30,7 @@ pub(crate) fn header_in_range(version: u32, sender: u32, sequence: u64, counter:
 
 // What the kind asks of the numbers past the header: those that it does not use are 0.
 pub(crate) fn body_in_range(kind: u32, p: u64, start: u32, len: usize) -> bool
-    ensures { λ r. ⌜ r ≡ body-fits kind p start len ⌝ }
+    ensures { λ r. ⌜ r ≡ body-in-range kind p start len ⌝ }
 {
     if kind == INCREMENT {
         return from_one(p, protocol::MAX) & (start <= 1) & (len == 0);
@@ -53,7 +49,7 @@ pub(crate) fn entry_in_range(low: u64, entry: ClearEntry) -> bool
 }
 
 pub(crate) fn entry_unused(entry: ClearEntry) -> bool
-    ensures { λ r. ⌜ r ≡ (eqb (entry .card) 0 && eqb (entry .p) 0 && eqb (entry .c) 0) ⌝ }
+    ensures { λ r. ⌜ r ≡ entry-unused entry ⌝ }
 {
     (entry.card == 0) & (entry.p == 0) & (entry.c == 0)
 }

@@ -1,14 +1,17 @@
 // A message is read through a reader: the caller's bytes, and a position in them that only moves forward ("The reader walks the bytes from a
-// position that only moves forward"). The borrow checker covers no function over such a struct, so each is thin and its proof a walk by
-// hand: it takes the struct apart and leaves the work to `number`. `next` reads one number through a reader and answers the position behind
-// it; what reads a part of a message begins each number where the one before it ended, answers the position behind the part, and needs no
-// walk. All are inner doors: the callers have tested the length.
+// position that only moves forward"). The checker covers no function over a struct that holds a reference, so the two over this one are thin, leave
+// the work to `number`, and are proved by hand. `next` reads one number through a reader and answers the position behind it; what reads a part of a
+// message begins each number where the one before it ended, answers the position behind the part, and needs no proof by hand.
+// All are internal functions: the callers have tested the length.
 use crate::number;
+use crate::number::HYPER_BYTES;
+use crate::number::INT_BYTES;
 use protocol::ClearEntry;
 ghost use mathlib.Core.Path.{_≡_};
 ghost use Prim.Native.Nat.{_+_, _≤_};
 ghost use lib.ListN.{length};
-ghost use Rattle.wire.specs.Number.{number-at, int-at};
+ghost use Rattle.wire.specs.Number.{int-width, hyper-width, number-at, int-at};
+ghost use Rattle.wire.specs.Message.{header-length, increment-body-length, entry-length};
 ghost use Rattle.wire.specs.MessageParts.{header-at, increment-at, entry-read-at};
 
 pub(crate) struct Reader<'a> {
@@ -17,7 +20,7 @@ pub(crate) struct Reader<'a> {
 }
 
 // A number, and the position behind it.
-pub(crate) struct NumberRead {
+struct NumberRead {
     pub number: u64,
     pub behind: usize,
 }
@@ -50,21 +53,10 @@ pub struct EntryRead {
     pub behind: usize,
 }
 
-// The widths of an unsigned int and an unsigned hyper.
-const INT: usize = 4;
-
-const HYPER: usize = 8;
-
-// Ruled out: a reader that begins elsewhere, and one over other bytes.
-pub(crate) fn from<'a>(src: &'a [u8], at: usize) -> Reader<'a>
-    ensures { λ r. ⌜ (r .src ≡ src .entry) × (r .at ≡ at) ⌝ }
-{
-    Reader { src, at }
-}
-
+// The number of `width` bytes at the position.
 // Ruled out: a number from another place, and more or fewer bytes than the width.
-pub(crate) fn number<'a>(r: Reader<'a>, width: usize) -> u64
-    requires { ⌜ (width ≤ 8) × (r .at + width ≤ length (now (r .src))) ⌝ }
+fn number<'a>(r: Reader<'a>, width: usize) -> u64
+    requires { ⌜ (width ≤ hyper-width) × (r .at + width ≤ length (now (r .src))) ⌝ }
     ensures { λ x. ⌜ x ≡ number-at width (now (r .entry .src)) (r .entry .at) ⌝ }
 {
     number::read_width(r.src, r.at, width)
@@ -72,7 +64,7 @@ pub(crate) fn number<'a>(r: Reader<'a>, width: usize) -> u64
 
 // The same bytes, `width` bytes further on.
 // Ruled out: a reader that stays where it was, and one that goes back.
-pub(crate) fn past<'a>(r: Reader<'a>, width: usize) -> Reader<'a>
+fn past<'a>(r: Reader<'a>, width: usize) -> Reader<'a>
     requires { ⌜ r .at + width ≤ length (now (r .src)) ⌝ }
     ensures { λ q. ⌜ (q .src ≡ r .entry .src) × (q .at ≡ r .entry .at + width) ⌝ }
 {
@@ -82,51 +74,43 @@ pub(crate) fn past<'a>(r: Reader<'a>, width: usize) -> Reader<'a>
     }
 }
 
-// Ruled out: the position of another reader.
-pub(crate) fn position<'a>(r: Reader<'a>) -> usize
-    ensures { λ n. ⌜ n ≡ r .entry .at ⌝ }
-{
-    r.at
-}
-
-// The number of `width` bytes at the position, and the position behind it.
+// The number of `width` bytes at a position, and the position behind it.
 // Ruled out: a number from another place, and a position that is not behind it.
-pub(crate) fn next(bytes: &[u8], at: usize, width: usize) -> NumberRead
-    requires { ⌜ (width ≤ 8) × (at + width ≤ length (now bytes)) ⌝ }
+fn next(bytes: &[u8], at: usize, width: usize) -> NumberRead
+    requires { ⌜ (width ≤ hyper-width) × (at + width ≤ length (now bytes)) ⌝ }
     ensures { λ r. ⌜ (r .number ≡ number-at width (now (bytes .entry)) at) × (r .behind ≡ at + width) ⌝ }
 {
-    let here = from(bytes, at);
+    let here = Reader { src: bytes, at };
     let number = number(here, width);
     let behind = past(here, width);
     NumberRead {
         number,
-        behind: position(behind),
+        behind: behind.at,
     }
 }
 
 // An unsigned int.
 // Ruled out: a number of two bytes or eight, and a position that stays where it was (must-fail/reader_stays).
 pub fn next_int(bytes: &[u8], at: usize) -> IntRead
-    requires { ⌜ at + 4 ≤ length (now bytes) ⌝ }
-    ensures { λ r. ⌜ (r .number ≡ int-at (now (bytes .entry)) at) × (r .behind ≡ at + 4) ⌝ }
+    requires { ⌜ at + int-width ≤ length (now bytes) ⌝ }
+    ensures { λ r. ⌜ (r .number ≡ int-at (now (bytes .entry)) at) × (r .behind ≡ at + int-width) ⌝ }
 {
-    let int = next(bytes, at, INT);
+    let int = next(bytes, at, INT_BYTES);
     IntRead {
         number: int.number as u32,
         behind: int.behind,
     }
 }
 
-// Ruled out: a number read at the place of the one before it, and an unsigned hyper that moves the reader
-// by 4 only.
+// Ruled out: a number read at the place of the one before it, and an unsigned hyper that moves the position by an unsigned int's width.
 pub fn header_from(bytes: &[u8], at: usize) -> Header
-    requires { ⌜ at + 24 ≤ length (now bytes) ⌝ }
+    requires { ⌜ at + header-length ≤ length (now bytes) ⌝ }
     ensures { λ h. ⌜ h ≡ header-at (now (bytes .entry)) at ⌝ }
 {
     let version = next_int(bytes, at);
     let kind = next_int(bytes, version.behind);
     let sender = next_int(bytes, kind.behind);
-    let sequence = next(bytes, sender.behind, HYPER);
+    let sequence = next(bytes, sender.behind, HYPER_BYTES);
     let counter = next_int(bytes, sequence.behind);
     Header {
         version: version.number,
@@ -140,10 +124,10 @@ pub fn header_from(bytes: &[u8], at: usize) -> Header
 
 // Ruled out: `start` before `p`, and `start` inside `p`.
 pub fn increment_from(bytes: &[u8], at: usize) -> Increment
-    requires { ⌜ at + 12 ≤ length (now bytes) ⌝ }
+    requires { ⌜ at + increment-body-length ≤ length (now bytes) ⌝ }
     ensures { λ r. ⌜ r ≡ increment-at (now (bytes .entry)) at ⌝ }
 {
-    let p = next(bytes, at, HYPER);
+    let p = next(bytes, at, HYPER_BYTES);
     let start = next_int(bytes, p.behind);
     Increment {
         p: p.number,
@@ -154,12 +138,12 @@ pub fn increment_from(bytes: &[u8], at: usize) -> Increment
 
 // Ruled out: `c` read at the place of `p`, and a number of the next entry.
 pub fn entry_from(bytes: &[u8], at: usize) -> EntryRead
-    requires { ⌜ at + 20 ≤ length (now bytes) ⌝ }
+    requires { ⌜ at + entry-length ≤ length (now bytes) ⌝ }
     ensures { λ r. ⌜ r ≡ entry-read-at (now (bytes .entry)) at ⌝ }
 {
     let card = next_int(bytes, at);
-    let p = next(bytes, card.behind, HYPER);
-    let c = next(bytes, p.behind, HYPER);
+    let p = next(bytes, card.behind, HYPER_BYTES);
+    let c = next(bytes, p.behind, HYPER_BYTES);
     let entry = ClearEntry {
         card: card.number,
         p: p.number,

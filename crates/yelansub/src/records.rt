@@ -5,11 +5,11 @@ use chassis::stepping;
 use chassis_model::Step;
 use replica::words;
 ghost use mathlib.Core.Path.{_≡_};
-ghost use Prim.Native.Nat.{_<_};
+ghost use Prim.Native.Nat.{_+_, _*_, _≤_};
 ghost use lib.ListN.{length};
-ghost use Rattle.chassis_model.specs.Run.{RunOutcome, run-on};
-ghost use Rattle.chassis.specs.Turns.{StepReady, StepAnswered};
-ghost use Rattle.yelansub.specs.Records.{Began, sizes-for};
+ghost use Rattle.chassis_model.specs.Run.{RunOutcome, answer-length, run-on};
+ghost use Rattle.chassis.specs.StepCodeLaws.{StepReady, StepAnswered};
+ghost use Rattle.yelansub.specs.RecordsLaws.{Began, sizes-for};
 
 // Writes fresh replicas if the sizes are right. Only the words are lent: the other lengths are numbers.
 fn begin_records(
@@ -31,8 +31,8 @@ fn begin_records(
     0
 }
 
-// One turn of the step core. One lifetime for all that is lent, so that a caller makes one for the call.
-fn turn_record<'a>(
+// One step by the step core. One lifetime for all that is lent, so that a caller makes one for the call.
+fn answer_record<'a>(
     cards: u64,
     counters: u64,
     log_bytes: u64,
@@ -41,24 +41,24 @@ fn turn_record<'a>(
     words: &'a mut [u64],
     logs: &'a mut [u8],
     answers: &'a mut [u64],
-    places: &'a mut [u64; 256],
+    places: &'a mut [u64; stepping::LINKS],
 ) -> usize
-    requires { ⌜ StepReady (sizes-for cards counters «log_bytes») (now words) (now logs) (now places) × (i < length (now answers)) ⌝ }
+    requires { ⌜ StepReady (sizes-for cards counters «log_bytes») (now words) (now logs) (now places) × (i * answer-length + answer-length ≤ length (now answers)) ⌝ }
     ensures { λ n. ⌜ StepAnswered (sizes-for cards counters «log_bytes») s i (now (words .entry)) (now (logs .entry)) (now (answers .entry)) (now (words .exit)) (now (logs .exit)) (now (answers .exit)) (now (places .exit)) n ⌝ }
 {
     let r = cards as usize;
     let k = counters as usize;
-    let z = Sizes {
+    let sizes = Sizes {
         cards: r,
         counters: k,
         log_bytes: log_bytes as usize,
-        replica: words::replica_words(r, k),
+        replica_words: words::replica_words(r, k),
     };
-    stepping::turn(z, s, i, words, logs, answers, places)
+    stepping::answer_step(sizes, s, i, words, logs, answers, places)
 }
 
 // Runs the steps from fresh replicas: the number, and of each step its answer. It is the run over bytes in all but the form of its steps
-// (claim `same-run`). The proof is a walk by hand.
+// (claim `same-run`). The proof is by hand.
 // Ruled out: answers that are not one for each step (must-fail/answers_not_counted), and a declined run that changes the words.
 #[no_mangle]
 pub extern "C" fn yelansub_run_records(
@@ -84,10 +84,10 @@ pub extern "C" fn yelansub_run_records(
     if number != 0 {
         return number;
     }
-    let mut places: [u64; 256] = [0; 256];
+    let mut places: [u64; stepping::LINKS] = [0; stepping::LINKS];
     let mut i: usize = 0;
     while i < steps.len() {
-        i = turn_record(
+        i = answer_record(
             cards,
             counters,
             log_bytes,

@@ -9,7 +9,7 @@ use denote.Ref.{now}
 use borrow.Author.Needs.{needs}
 use Rattle.replica_model.specs.Layout.{replica-length}
 use Rattle.chassis_model.specs.Run.{fresh-replicas}
-use Rattle.chassis.specs.Begin.{fresh-turn}
+use Rattle.chassis.specs.BeginLaws.{fresh-next}
 use Rattle.chassis.proofs.begin.fresh_all.Statement.{statement}
 use Rattle.chassis.proofs.begin.fresh_all.Tie as tie
 
@@ -42,7 +42,7 @@ loop-again c =
     let args = at .before .before .args in (
       search needs,
       search needs,
-      called .fresh-card .ensures ∙ rw (at .loop .inv .2) (fresh-turn (args .r) (args .k) (at .loop .card) (now (args .words))),
+      called .fresh-card .ensures ∙ rw (at .loop .inv .2) (fresh-next (args .r) (args .k) (at .loop .card) (now (args .words))),
     )
 
 same-length : tie.Need-same-length Inv-loop μ-loop

@@ -9,7 +9,7 @@ use borrow.Author.Needs.{needs}
 use Rattle.replica_model.specs.Layout.{replica-length}
 use Rattle.chassis_model.specs.ListParts.{part, put-part}
 use Rattle.chassis_model.specs.ListPartsLaws.{part-room, part-length}
-use Rattle.chassis.specs.Begin.{opened}
+use Rattle.chassis.specs.BeginLaws.{opened}
 use Rattle.chassis.proofs.begin.fresh_card.Statement.{statement}
 use Rattle.chassis.proofs.begin.fresh_card.Tie as tie
 

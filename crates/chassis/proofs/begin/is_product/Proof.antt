@@ -1,6 +1,6 @@
 -- The quotient and the remainder tell whether the product is exact (`product-test`).
 use borrow.Author.Needs.{needs}
-use Rattle.chassis.specs.Begin.{product-test}
+use Rattle.chassis.specs.BeginLaws.{product-test}
 use Rattle.chassis.proofs.begin.is_product.Statement.{statement}
 use Rattle.chassis.proofs.begin.is_product.Tie as tie
 

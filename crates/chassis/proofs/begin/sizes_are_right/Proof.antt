@@ -1,10 +1,12 @@
--- Once r and k are in range, a replica has at most 3,107 words, and sixteen of them fit a word many times.
+-- Once r and k are in range, a replica has at most as many words as one of most-cards and most-counters, and most-cards of them fit a word many times.
 use Prim.Native.Nat.{_≤_}
 use mathlib.Core.Path.{_≡_, sym, _∙_}
 use mathlib.Core.Bool.{true}
 use native.Mathlib.Nat.{mul-le-mul}
 use native.Mathlib.Omega.{arith}
 use borrow.Author.Needs.{needs}
+use Rattle.protocol.specs.Limits.{most-cards, most-counters}
+use Rattle.replica_model.specs.Layout.{replica-length}
 use Rattle.replica_model.specs.Calls.{sizes-in-range}
 use Rattle.replica_model.specs.ClaimTerms.{Sizes}
 use Rattle.replica_model.specs.RowLaws.{sizes}
@@ -27,7 +29,7 @@ mul-needed : tie.Need-mul-needed
 mul-needed c =
     let facts = sized (c .before) in
     let product = mul-le-mul (facts .few-cards) (facts .few-counters) in
-    let long : c .replica-words .result ≤ 3107 = omega (arith, c .replica-words .ensures, product) in
+    let long : c .replica-words .result ≤ replica-length most-cards most-counters = omega (arith, c .replica-words .ensures, product) in
     omega (arith, mul-le-mul (facts .few-cards) long)
 
 is-product-requires : tie.Need-is-product-requires

@@ -3,7 +3,7 @@ use mathlib.Core.Path.{_≡_, _∙_}
 use native.Mathlib.Omega.{arith}
 use borrow.Author.Needs.{needs}
 use denote.Ref.{now}
-use Rattle.chassis.specs.Walk.{rest-is, Walk, walk-begins, walk-next, walk-none, walk-zero, walk-here}
+use Rattle.chassis.specs.LogWalkLaws.{rest-is, Walk, walk-begins, walk-next, walk-none, walk-zero, walk-here}
 use Rattle.chassis.proofs.log.waiting_span.Statement.{statement}
 use Rattle.chassis.proofs.log.waiting_span.Tie as tie
 

@@ -1,4 +1,4 @@
--- The three ends of a run, each by its law of specs/Outcomes; what the steps are given is the fresh state (`steps-given`).
+-- The three ends of a run, each by its law of specs/OutcomeLaws; what the steps are given is the fresh state (`steps-given`).
 use mathlib.Core.Path.{_≡_, sym, _∙_}
 use mathlib.Core.Bool.{true}
 use lib.ListN.{length}
@@ -6,8 +6,9 @@ use Prim.Native.Nat.{_/_}
 use denote.Ref.{now}
 use borrow.Author.Needs.{needs}
 use borrow.Author.Tests.{not-true, not-false}
-use Rattle.chassis.specs.Begin.{RightLengths, lengths-right, right-lengths}
-use Rattle.chassis.specs.Outcomes.{run-uneven, run-declined, steps-given, run-done}
+use Rattle.chassis_model.specs.Run.{step-length}
+use Rattle.chassis.specs.BeginLaws.{RightLengths, lengths-right, right-lengths}
+use Rattle.chassis.specs.OutcomeLaws.{run-uneven, run-declined, steps-given, run-done}
 use Rattle.chassis.proofs.run.run.Statement.{statement}
 use Rattle.chassis.proofs.run.run.Tie as tie
 
@@ -28,14 +29,14 @@ returns-2 c =
 -- the sizes are right
 right : (c : tie.Else2)
     → let args = c .before .before .before .before .before .before .before .args in
-    lengths-right (args .cards) (args .counters) (args .log-bytes) (length (now (args .steps)) / 12) (length (now (args .words))) (length (now (args .logs)))
+    lengths-right (args .cards) (args .counters) (args .log-bytes) (length (now (args .steps)) / step-length) (length (now (args .words))) (length (now (args .logs)))
     (length (now (args .answers)))
     ≡ true
 right c = sym (c .before .sizes-are-right .ensures) ∙ not-false _ (c .if2 .left)
 
 facts : (c : tie.Else2)
     → let args = c .before .before .before .before .before .before .before .args in
-    RightLengths (args .cards) (args .counters) (args .log-bytes) (length (now (args .steps)) / 12) (length (now (args .words))) (length (now (args .logs)))
+    RightLengths (args .cards) (args .counters) (args .log-bytes) (length (now (args .steps)) / step-length) (length (now (args .words))) (length (now (args .logs)))
     (length (now (args .answers)))
 facts c = right-lengths _ _ _ _ _ _ _ (right c)
 

@@ -1,37 +1,38 @@
--- The invariant: the state is reached, with the links' places, and the steps from byte 12 * i on are left (`RunningBytes`). The measure: how many.
+-- The invariant: the state is reached, with the links' places, and the steps from the i-th on are left (`RunningBytes`). The measure: how many.
 use Prim.Native.Nat.{_+_, _-_, _*_, _≤_}
 use mathlib.Core.Path.{_≡_, refl, sym, _∙_}
 use native.Mathlib.Omega.{arith}
 use lib.ListN.{length}
 use denote.Ref.{now}
-use Rattle.chassis.specs.Turns.{state-of, StepReady, answers-long}
-use Rattle.chassis.specs.Running.{RunningBytes, bytes-begin, bytes-turn, bytes-done}
+use Rattle.chassis_model.specs.Run.{step-length}
+use Rattle.chassis.specs.StepCodeLaws.{state-of, StepReady, answers-long}
+use Rattle.chassis.specs.RunningLaws.{RunningBytes, bytes-begin, bytes-next, bytes-done}
 use Rattle.chassis.proofs.run.run_steps.Statement.{statement}
 use Rattle.chassis.proofs.run.run_steps.Tie as tie
 
 abbrev Inv-loop : tie.InvT-loop
-Inv-loop z bytes words₀ logs₀ answers₀ places₀ i₀ words logs answers places i =
-    StepReady z words logs places
-    × RunningBytes (z .cards) (z .counters) (z .«log_bytes») bytes (state-of words₀ logs₀) (state-of words logs) i answers
+Inv-loop sizes bytes count words₀ logs₀ answers₀ places₀ i₀ words logs answers places i =
+    StepReady sizes words logs places
+    × RunningBytes (sizes .cards) (sizes .counters) (sizes .«log_bytes») bytes count (state-of words₀ logs₀) (state-of words logs) i answers
     × (length answers ≡ length answers₀)
 
 abbrev μ-loop : tie.MeasureT-loop
-μ-loop z bytes words₀ logs₀ answers₀ places₀ i₀ words logs answers places i = length answers - i
+μ-loop sizes bytes count words₀ logs₀ answers₀ places₀ i₀ words logs answers places i = count - i
 
 loop-holds : tie.Need-loop-holds Inv-loop μ-loop
 loop-holds c =
     let start = c .before .before .before .before in
     let args = start .args in (
       start .pre .0,
-      bytes-begin (args .z .cards) (args .z .counters) (args .z .«log_bytes») (now (args .bytes)) (state-of (now (args .words)) (now (args .logs))) (now (args .answers)) (start .pre .1),
+      bytes-begin (args .sizes .cards) (args .sizes .counters) (args .sizes .«log_bytes») (now (args .bytes)) (args .count) (state-of (now (args .words)) (now (args .logs))) (now (args .answers)) (start .pre .1) (start .pre .2),
       refl,
     )
 
 -- the step lies inside the bytes
-room : (c : tie.In-loop Inv-loop μ-loop) → let args = c .before .before .before .before .before .before .args in 12 * c .before .loop .i + 12 ≤ length (now (args .bytes))
+room : (c : tie.In-loop Inv-loop μ-loop) → let args = c .before .before .before .before .before .before .args in step-length * c .before .loop .i + step-length ≤ length (now (args .bytes))
 room c =
     let start = c .before .before .before .before .before .before in
-    omega (arith, c .loop-test .taken, start .pre .1, c .before .loop .inv .2)
+    omega (arith, c .loop-test .taken, start .pre .1)
 
 mul-step-from : tie.Need-mul-step-from Inv-loop μ-loop
 mul-step-from c = omega (arith, room c)
@@ -39,30 +40,30 @@ mul-step-from c = omega (arith, room c)
 step-from-requires : tie.Need-step-from-requires Inv-loop μ-loop
 step-from-requires c κs = room c
 
-turn-requires : tie.Need-turn-requires Inv-loop μ-loop
-turn-requires c κs =
+answer-step-requires : tie.Need-answer-step-requires Inv-loop μ-loop
+answer-step-requires c κs =
     let inside = c .before .before .before .before .before in
-    (inside .before .loop .inv .0, inside .loop-test .taken)
+    let start = inside .before .before .before .before .before .before in
+    (inside .before .loop .inv .0, omega (arith, inside .loop-test .taken, inside .before .loop .inv .2, start .pre .2))
 
 loop-less : tie.Need-loop-less Inv-loop μ-loop
 loop-less c =
-    let turn = c .before .before .before .before .before .before in
-    let inside = turn .before .before .before .before .before .before in
-    let done = turn .turn .ensures in
-    omega (arith, done .next, answers-long done, inside .loop-test .taken)
+    let answered = c .before .before .before .before .before .before in
+    let inside = answered .before .before .before .before .before .before in
+    omega (arith, answered .answer-step .ensures .next, inside .loop-test .taken)
 
 loop-again : tie.Need-loop-again Inv-loop μ-loop
 loop-again c =
-    let turn = c .before .before .before .before .before .before in
-    let step = turn .before .before .before .before .before in
+    let answered = c .before .before .before .before .before .before in
+    let step = answered .before .before .before .before .before in
     let inside = step .before in
     let loop = inside .before .loop in
     let start = inside .before .before .before .before .before .before in
     let args = start .args in
-    let done = turn .turn .ensures in
-    let more = bytes-turn (args .z .cards) (args .z .counters) (args .z .«log_bytes») (now (args .bytes)) (state-of (now (args .words)) (now (args .logs)))
-    (step .step-from .result) (state-of (loop .words) (loop .logs)) _ (loop .i) _ (loop .answers) (inside .loop-test .taken) (step .step-from .ensures)
-    refl (done .state-is) (loop .inv .1) in
+    let done = answered .answer-step .ensures in
+    let more = bytes-next (args .sizes .cards) (args .sizes .counters) (args .sizes .«log_bytes») (now (args .bytes)) (args .count) (state-of (now (args .words)) (now (args .logs)))
+    (step .step-from .result) (state-of (loop .words) (loop .logs)) _ (loop .i) (loop .answers) (inside .loop-test .taken) (step .step-from .ensures)
+    (done .state-is) (loop .inv .1) in
     (done .given, rw (done .next, done .answers-are) more, answers-long done ∙ loop .inv .2)
 
 same-length : tie.Need-same-length Inv-loop μ-loop
@@ -83,7 +84,7 @@ returns c =
     let start = c .before .before .before .before .before .before in
     let args = start .args in
     let loop = c .before .loop in
-    let all = bytes-done (args .z .cards) (args .z .counters) (args .z .«log_bytes») (now (args .bytes)) (state-of (now (args .words)) (now (args .logs)))
+    let all = bytes-done (args .sizes .cards) (args .sizes .counters) (args .sizes .«log_bytes») (now (args .bytes)) (args .count) (state-of (now (args .words)) (now (args .logs)))
     (state-of (loop .words) (loop .logs)) (loop .i) (loop .answers) (c .loop-test .left) (loop .inv .1) in
     record { state-is = sym (all .0); answers-are = sym (all .1) }
 
@@ -96,7 +97,7 @@ run-steps-spec =
     loop-holds
     mul-step-from
     step-from-requires
-    turn-requires
+    answer-step-requires
     loop-less
     loop-again
     same-length

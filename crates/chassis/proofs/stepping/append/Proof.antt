@@ -8,7 +8,7 @@ use lib.Seq.{take-all}
 use denote.Ref.{now}
 use borrow.Author.Needs.{needs}
 use Rattle.replica_model.specs.Calls.{SendOutcome}
-use Rattle.chassis.specs.Turns.{appended}
+use Rattle.chassis.specs.StepCodeLaws.{appended}
 use Rattle.chassis.proofs.stepping.append.Statement.{statement}
 use Rattle.chassis.proofs.stepping.append.Tie as tie
 

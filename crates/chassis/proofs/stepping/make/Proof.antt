@@ -1,7 +1,7 @@
--- The card's parts of the words and of the logs lie inside, and its own place inside its log; what the call leaves in them is then what a count or a
--- clear step makes (`made-did`), and the place it leaves lies inside the log again (`made-place`).
-use Prim.Native.Nat.{_+_, _*_, _≤_, _<_}
-use mathlib.Core.Path.{_≡_, refl}
+-- The card's parts of the words and of the logs lie inside, and its own place inside its log; what the call leaves in them is then what a step that makes
+-- a message leaves (`made-did`), and the place it leaves lies inside the log again (`made-place`).
+use Prim.Native.Nat.{_+_, _*_, _≤_}
+use mathlib.Core.Path.{_≡_, refl, ap, _∙_}
 use native.Mathlib.Nat.{add-sub-cancel-left}
 use native.Mathlib.Omega.{arith}
 use lib.ListN.{length, getD}
@@ -11,37 +11,38 @@ use denote.Ref.{now}
 use borrow.Author.Needs.{needs}
 use Rattle.replica_model.specs.Calls.{SendOutcome}
 use Rattle.chassis_model.specs.ListParts.{part, put-part}
-use Rattle.chassis.specs.Turns.{appended, words-room, logs-room, log-long, place-small, made-did, made-place}
+use Rattle.chassis_model.specs.Run.{answered}
+use Rattle.chassis_model.specs.Places.{link-place}
+use Rattle.chassis.specs.StepCodeLaws.{appended, card-few, words-room, logs-room, log-long, place-small, made-did, made-place}
 use Rattle.chassis.proofs.stepping.make.Statement.{statement}
 use Rattle.chassis.proofs.stepping.make.Tie as tie
 
 -- where the card's parts end
-words-end : (s : tie.Start) → let args = s .args in args .card * args .z .replica + args .z .replica ≤ length (now (args .words))
+words-end : (s : tie.Start) → let args = s .args in args .card * args .sizes .«replica_words» + args .sizes .«replica_words» ≤ length (now (args .words))
 words-end s = words-room _ _ _ _ (s .pre .0) (s .args .card) (s .pre .1)
 
-logs-end : (s : tie.Start) → let args = s .args in args .card * args .z .«log_bytes» + args .z .«log_bytes» ≤ length (now (args .logs))
+logs-end : (s : tie.Start) → let args = s .args in args .card * args .sizes .«log_bytes» + args .sizes .«log_bytes» ≤ length (now (args .logs))
 logs-end s = logs-room _ _ _ _ (s .pre .0) (s .args .card) (s .pre .1)
 
-capacity-fits : (c : tie.After-slice-known2) → Fits w64 (c .before .before .args .z .«log_bytes»)
+capacity-fits : (c : tie.After-slice-known2) → Fits w64 (c .before .before .args .sizes .«log_bytes»)
 capacity-fits c = omega (arith, logs-end (c .before .before))
 
 -- what the call left, of the parts and the place by name
 sent-is : (c : tie.After-append) → let args = c .before .before .before .before .before .before .before .before .before .before .before .args in
     _≡_ {A = SendOutcome} (record { answer = c .append .result; words = c .append .last .1 .0; out = c .append .last .1 .1 .1 .0 })
-    (appended (args .counts) (args .counter) (part (args .z .replica) (now (args .words)) (args .card)) (part (args .z .«log_bytes») (now (args .logs)) (args .card))
-    (getD (now (args .places)) (16 * args .card + args .card) 0))
+    (appended (args .making) (args .counter) (part (args .sizes .«replica_words») (now (args .words)) (args .card)) (part (args .sizes .«log_bytes») (now (args .logs)) (args .card))
+    (getD (now (args .places)) (link-place (args .card) (args .card)) 0))
 unfolding part
 sent-is c =
     let link = c .before .before .before .before .before .before .before .before in
     let args = link .before .before .before .args in
-    rw (add-sub-cancel-left (args .card * args .z .replica) (args .z .replica), add-sub-cancel-left (args .card * args .z .«log_bytes») (args .z .«log_bytes»), link .link .ensures .0) at
+    rw (add-sub-cancel-left (args .card * args .sizes .«replica_words») (args .sizes .«replica_words»), add-sub-cancel-left (args .card * args .sizes .«log_bytes») (args .sizes .«log_bytes»), link .link .ensures .0) at
     (c .append .ensures)
 
 link-requires : tie.Need-link-requires
 link-requires c κs =
     let start = c .before .before in
-    let few = start .pre .0 .reached .matches .cards .sizes .few-cards in
-    let inside : start .args .card < 16 = omega (arith, start .pre .1) in
+    let inside = card-few _ _ _ _ (start .pre .0) (start .args .card) (start .pre .1) in
     (inside, inside)
 
 mul-at : tie.Need-mul-at
@@ -90,7 +91,7 @@ append-requires c κs =
     let start = link .before .before .before in
     let args = start .args in
     let inside = place-small _ _ _ _ (start .pre .0) (args .card) (args .card) (start .pre .1) (start .pre .1) in
-    rw (add-sub-cancel-left (args .card * args .z .«log_bytes») (args .z .«log_bytes»), link .link .ensures .0, log-long _ _ _ _ (start .pre .0) (args .card) (start .pre .1)) inside
+    rw (add-sub-cancel-left (args .card * args .sizes .«log_bytes») (args .sizes .«log_bytes»), link .link .ensures .0, log-long _ _ _ _ (start .pre .0) (args .card) (start .pre .1)) inside
 
 add-places : tie.Need-add-places
 add-places c =
@@ -98,9 +99,9 @@ add-places c =
     let link = append .before .before .before .before .before .before .before .before in
     let start = link .before .before .before in
     let args = start .args in
-    let inside : getD (now (args .places)) (link .link .result) 0 + append .append .result .length ≤ args .z .«log_bytes»
+    let inside : getD (now (args .places)) (link .link .result) 0 + append .append .result .length ≤ args .sizes .«log_bytes»
     = rw (link .link .ensures .0)
-    (made-place _ _ _ _ (start .pre .0) (args .counts) (args .card) (args .counter) _ _ _ _ (start .pre .1) refl (sent-is append)) in
+    (made-place _ _ _ _ (start .pre .0) (args .making) (args .card) (args .counter) _ _ _ _ (start .pre .1) refl (sent-is append)) in
     let fits : Fits w64 (getD (now (args .places)) (link .link .result) 0 + append .append .result .length) = omega (arith, inside, capacity-fits (link .before)) in
     fits
 
@@ -117,6 +118,9 @@ element-write-places c =
 step-number-requires : tie.Need-step-number-requires
 step-number-requires c κs = tt
 
+answered-requires : tie.Need-answered-requires
+answered-requires c κs = tt
+
 same-length : tie.Need-same-length
 same-length c = search needs
 
@@ -126,12 +130,14 @@ same-length-2 c = search needs
 returns : tie.Need-returns
 unfolding put-part
 returns c =
-    let append = c .before .before .before .before .before .before in
+    let number = c .before in
+    let append = number .before .before .before .before .before .before in
     let link = append .before .before .before .before .before .before .before .before in
     let start = link .before .before .before in
     let args = start .args in
-    rw (add-sub-cancel-left (args .card * args .z .replica) (args .z .replica), add-sub-cancel-left (args .card * args .z .«log_bytes») (args .z .«log_bytes»), link .link .ensures .0)
-    (made-did _ _ _ _ (start .pre .0) (args .counts) (args .card) (args .counter) _ _ _ _ _ (start .pre .1) refl (sent-is append) (c .step-number .ensures))
+    rw (add-sub-cancel-left (args .card * args .sizes .«replica_words») (args .sizes .«replica_words»), add-sub-cancel-left (args .card * args .sizes .«log_bytes») (args .sizes .«log_bytes»), link .link .ensures .0)
+    (made-did _ _ _ _ (start .pre .0) (args .making) (args .card) (args .counter) _ _ _ _ (start .pre .1) refl (sent-is append) _
+    (c .answered .ensures ∙ ap answered (number .step-number .ensures)))
 
 pub make-spec : {M : Type 1} → statement M
 make-spec =
@@ -156,6 +162,7 @@ make-spec =
     mul-places
     element-write-places
     step-number-requires
+    answered-requires
     same-length
     same-length-2
     returns)

@@ -6,7 +6,7 @@ use lib.Seq.{length-take-le}
 use denote.Ref.{now}
 use borrow.Author.Needs.{needs}
 use Rattle.wire.specs.Message.{called-length}
-use Rattle.chassis.specs.Walk.{rest-is}
+use Rattle.chassis.specs.LogWalkLaws.{rest-is}
 use Rattle.chassis.proofs.stepping.next_message.Statement.{statement}
 use Rattle.chassis.proofs.stepping.next_message.Tie as tie
 

@@ -11,8 +11,8 @@ use Rattle.chassis.proofs.stepping.received.Statement.{statement}
 use Rattle.chassis.proofs.stepping.received.Tie as tie
 
 -- where the card's part ends
-room : (c : tie.Start) → c .args .card * c .args .z .replica + c .args .z .replica ≤ length (now (c .args .words))
-room c = rw (c .pre .1) (part-room (c .args .card) (c .args .z .cards) (c .args .z .replica) (c .pre .4))
+room : (c : tie.Start) → c .args .card * c .args .sizes .«replica_words» + c .args .sizes .«replica_words» ≤ length (now (c .args .words))
+room c = rw (c .pre .0 .long) (part-room (c .args .card) (c .args .sizes .cards) (c .args .sizes .«replica_words») (c .pre .1))
 
 mul-from : tie.Need-mul-from
 mul-from c = omega (arith, room (c .before .before))
@@ -38,17 +38,17 @@ messages-at-requires c κs =
     let start = c .before .before .before .before in
     let args = start .args in
     rw (
-      add-sub-cancel-left (args .card * args .z .replica) (args .z .replica),
-      part-length (args .z .cards) (args .z .replica) (args .card) (now (args .words)) (start .pre .1) (start .pre .4),
+      add-sub-cancel-left (args .card * args .sizes .«replica_words») (args .sizes .«replica_words»),
+      part-length (args .sizes .cards) (args .sizes .«replica_words») (args .card) (now (args .words)) (start .pre .0 .long) (start .pre .1),
     )
-    (omega (arith, start .pre .0, start .pre .5))
+    (omega (arith, start .pre .0 .replica-is, start .pre .2))
 
 returns : tie.Need-returns
 unfolding part
 returns c = λ logs.
     let start = c .before .before .before .before .before in
     let args = start .args in
-    rw (← (start .pre .0)) (rw (add-sub-cancel-left (args .card * args .z .replica) (args .z .replica)) at (c .messages-at .ensures))
+    rw (← (start .pre .0 .replica-is)) (rw (add-sub-cancel-left (args .card * args .sizes .«replica_words») (args .sizes .«replica_words»)) at (c .messages-at .ensures))
 
 pub received-spec : {M : Type 1} → statement M
 received-spec =

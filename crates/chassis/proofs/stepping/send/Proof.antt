@@ -1,10 +1,20 @@
--- The call is the one that the flag names.
+-- The call is the one of the making that the arm names.
 use borrow.Author.Needs.{needs}
+use Rattle.chassis_model.specs.Run.{call-of}
 use Rattle.chassis.proofs.stepping.send.Statement.{statement}
 use Rattle.chassis.proofs.stepping.send.Tie as tie
 
+enum-told : tie.Need-enum-told
+enum-told c = search needs
+
 count-requires : tie.Need-count-requires
 count-requires c κs = search needs
+
+enum-told-2 : tie.Need-enum-told-2
+enum-told-2 c = search needs
+
+clear-requires : tie.Need-clear-requires
+clear-requires c κs = search needs
 
 same-length : tie.Need-same-length
 same-length c = search needs
@@ -13,13 +23,10 @@ same-length-2 : tie.Need-same-length-2
 same-length-2 c = search needs
 
 returns : tie.Need-returns
+unfolding call-of
 returns c =
     let called = c .before .before .before .before in
-    let then1 = called .before .before .before in
-    rw (then1 .if1 .taken) (called .count .ensures)
-
-clear-requires : tie.Need-clear-requires
-clear-requires c κs = search needs
+    rw (called .before .before .before .enum-told .given .1) (called .count .ensures)
 
 same-length-3 : tie.Need-same-length-3
 same-length-3 c = search needs
@@ -28,20 +35,22 @@ same-length-4 : tie.Need-same-length-4
 same-length-4 c = search needs
 
 returns-2 : tie.Need-returns-2
+unfolding call-of
 returns-2 c =
     let called = c .before .before .before .before in
-    let else1 = called .before .before .before in
-    rw (else1 .if1 .left) (called .clear .ensures)
+    rw (called .before .before .before .enum-told2 .given .1) (called .clear .ensures)
 
 pub send-spec : {M : Type 1} → statement M
 send-spec =
     tie.close
     (tie.spec
+    enum-told
     count-requires
+    enum-told-2
+    clear-requires
     same-length
     same-length-2
     returns
-    clear-requires
     same-length-3
     same-length-4
     returns-2)

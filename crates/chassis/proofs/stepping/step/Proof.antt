@@ -1,23 +1,38 @@
--- The tests name the step's kind, and its call does what that kind of step does; a step that no call takes leaves all as it is (`declined-did`).
-use Prim.Native.Nat.{_<_}
-use mathlib.Core.Path.{_≡_}
-use denote.Ref.{now}
+-- Each arm's call does what the arm's action does, and an action that no call takes leaves all as it is (`declined-did`).
+use mathlib.Core.Path.{_≡_, refl, sym, _∙_}
+use native.Mathlib.Omega.{arith}
 use borrow.Author.Needs.{needs}
-use Rattle.chassis.specs.Turns.{cards-there, making-due, making-declined, kind-declined, delivering-due, delivering-declined, declined-did}
+use borrow.Author.Tests.{le-ltb}
+use Rattle.protocol.specs.Limits.{bad-card, bad-kind}
+use Rattle.chassis_model.specs.declared.Action.the-variants.{Make, Deliver, Nothing}
+use Rattle.chassis_model.specs.Run.{action-of}
+use Rattle.chassis_model.specs.StepLaws.{is-link}
+use Rattle.chassis.specs.StepCodeLaws.{declined-did}
 use Rattle.chassis.proofs.stepping.step.Statement.{statement}
 use Rattle.chassis.proofs.stepping.step.Tie as tie
 
-cast-first : tie.Need-cast-first
-cast-first c = search needs
+action-of-requires : tie.Need-action-of-requires
+action-of-requires c κs = search needs
 
-cast-second : tie.Need-cast-second
-cast-second c = search needs
+-- ---- a message made
+
+enum-known-making : tie.Need-enum-known-making
+enum-known-making c = search needs
+
+making-is : (c : tie.After-making)
+    → let v = c .making .given .0 in action-of (c .before .before .before .before .before .args .s) ≡ Make (v .0) (v .1 .0) (v .1 .1 .0)
+making-is c = sym (c .before .before .action-of .ensures) ∙ c .making .given .1
+
+cast-card : tie.Need-cast-card
+cast-card c = search needs
+
+cast-make : tie.Need-cast-make
+cast-make c = search needs
 
 make-requires : tie.Need-make-requires
 make-requires c κs =
-    let then2 = c .before .before .before in
-    let start = then2 .before .before .before .before .before .before .before in
-    (start .pre, then2 .if2 .taken)
+    let there = c .before .before .before in
+    (there .before .before .before .before .before .before .before .pre, there .if1 .taken)
 
 same-length : tie.Need-same-length
 same-length c = search needs
@@ -28,36 +43,37 @@ same-length-2 c = search needs
 returns : tie.Need-returns
 returns c =
     let called = c .before .before .before .before in
-    let then2 = called .before .before .before .before in
-    let then1 = then2 .before .before in
-    let args = then1 .before .before .before .before .before .args in
-    rw (making-due (args .z) (args .s) (now (args .words)) (now (args .logs)) (then1 .if1 .taken) (then2 .if2 .taken)) (called .make .ensures)
+    rw (making-is (called .before .before .before .before .before .before)) (called .make .ensures)
+
+answered-requires : tie.Need-answered-requires
+answered-requires c κs = search needs
 
 returns-2 : tie.Need-returns-2
 returns-2 c =
-    let then1 = c .before .before in
-    let start = then1 .before .before .before .before .before in
-    declined-did _ _ _ _ _ _ (start .pre) (making-declined (start .args .z) (start .args .s) _ _ (then1 .if1 .taken) (c .if2 .left))
+    let making = c .before .before .before in
+    let start = making .before .before .before .before .before in
+    rw (c .answered .ensures, making-is making)
+    (declined-did _ _ _ _ (start .pre) (Make _ _ _) bad-card (λ e. omega arith) (le-ltb _ _ (c .before .if1 .left)))
 
-returns-3 : tie.Need-returns-3
-returns-3 c =
-    let else1 = c .before in
-    let start = else1 .before .before .before .before .before in
-    declined-did _ _ _ _ _ _ (start .pre) (kind-declined (start .args .z) (start .args .s) _ _ (else1 .if1 .left) (c .if3 .taken))
+-- ---- a message handed over
 
--- two cards that are there, and not the same one twice
-there : (c : tie.Then4) → let args = c .before .before .before .before .before .before .before .before .before .args in
-    (args .s .first < args .z .cards) × (args .s .second < args .z .cards) × (args .s .first ≡ args .s .second → ⊥)
-there c =
-    let args = c .before .before .before .before .before .before .before .before .before .args in
-    cards-there (args .s .first) (args .s .second) (args .z .cards) (c .if4 .taken)
+enum-known-receiver : tie.Need-enum-known-receiver
+enum-known-receiver c = search needs
+
+delivery-is : (c : tie.After-receiver)
+    → let v = c .receiver .given .0 in action-of (c .before .before .before .before .before .args .s) ≡ Deliver (v .0) (v .1 .0)
+delivery-is c = sym (c .before .before .action-of .ensures) ∙ c .receiver .given .1
+
+cast-receiver : tie.Need-cast-receiver
+cast-receiver c = search needs
+
+cast-sender : tie.Need-cast-sender
+cast-sender c = search needs
 
 deliver-requires : tie.Need-deliver-requires
 deliver-requires c κs =
-    let then4 = c .before .before .before in
-    let start = then4 .before .before .before .before .before .before .before .before .before in
-    let two = there then4 in
-    (start .pre, two .0, two .1, two .2)
+    let linked = c .before .before .before in
+    (linked .before .before .before .before .before .before .before .pre, is-link _ _ _ (linked .if2 .taken))
 
 same-length-3 : tie.Need-same-length-3
 same-length-3 c = search needs
@@ -65,37 +81,58 @@ same-length-3 c = search needs
 same-length-4 : tie.Need-same-length-4
 same-length-4 c = search needs
 
+returns-3 : tie.Need-returns-3
+returns-3 c =
+    let called = c .before .before in
+    rw (delivery-is (called .before .before .before .before .before .before)) (called .deliver .ensures)
+
+answered-requires-2 : tie.Need-answered-requires-2
+answered-requires-2 c κs = search needs
+
 returns-4 : tie.Need-returns-4
 returns-4 c =
-    let called = c .before .before in
-    let then4 = called .before .before .before .before in
-    let else3 = then4 .before .before .before in
-    let else1 = else3 .before in
-    let args = else1 .before .before .before .before .before .args in
-    rw (delivering-due (args .z) (args .s) (now (args .words)) (now (args .logs)) (else1 .if1 .left) (else3 .if3 .left) (then4 .if4 .taken))
-    (called .deliver .ensures)
+    let delivery = c .before .before .before in
+    let start = delivery .before .before .before .before .before in
+    rw (c .answered2 .ensures, delivery-is delivery) (declined-did _ _ _ _ (start .pre) (Deliver _ _) bad-card (λ e. omega arith) (c .before .if2 .left))
+
+-- ---- nothing that there is
+
+enum-told : tie.Need-enum-told
+enum-told c = search needs
+
+answered-requires-3 : tie.Need-answered-requires-3
+answered-requires-3 c κs = search needs
 
 returns-5 : tie.Need-returns-5
 returns-5 c =
-    let else3 = c .before .before .before in
-    let else1 = else3 .before in
-    let start = else1 .before .before .before .before .before in
-    declined-did _ _ _ _ _ _ (start .pre) (delivering-declined (start .args .z) (start .args .s) _ _ (else1 .if1 .left) (else3 .if3 .left) (c .if4 .left))
+    let told = c .before in
+    let chosen = told .before .before in
+    let none : action-of (chosen .before .before .before .args .s) ≡ Nothing = sym (chosen .action-of .ensures) ∙ told .enum-told .given .1 in
+    rw (c .answered3 .ensures, none) (declined-did _ _ _ _ (chosen .before .before .before .pre) Nothing bad-kind (λ e. omega arith) refl)
 
 pub step-spec : {M : Type 1} → statement M
 step-spec =
     tie.close
     (tie.spec
-    cast-first
-    cast-second
+    action-of-requires
+    enum-known-making
+    cast-card
+    cast-make
     make-requires
+    answered-requires
+    enum-known-receiver
+    cast-receiver
+    cast-sender
+    deliver-requires
+    answered-requires-2
+    enum-told
+    answered-requires-3
     same-length
     same-length-2
     returns
     returns-2
-    returns-3
-    deliver-requires
     same-length-3
     same-length-4
+    returns-3
     returns-4
     returns-5)

@@ -1,12 +1,13 @@
 -- After n turns the lines of the first n counters are stored.
+use Prim.Native.Nat.{_-_, _*_, _≤_}
 use mathlib.Core.Path.{_≡_, refl}
 use native.Mathlib.Omega.{arith}
 use denote.Ref.{now}
-use Rattle.listing.specs.TextLaws.{put-none, put-turn}
-use Prim.Native.Nat.{_-_, _*_, _≤_}
 use lib.ListN.{length}
+use Rattle.text.specs.Put.{Put}
+use Rattle.text.specs.PutLaws.{put-none, put-turn}
 use Rattle.listing.specs.Listing.{card-lines}
-use Rattle.listing.specs.Text.{line-bytes, Put}
+use Rattle.listing.specs.Sizes.{line-bytes}
 use borrow.Author.Needs.{needs}
 use Rattle.listing.proofs.lines.put_card.Statement.{statement}
 use Rattle.listing.proofs.lines.put_card.Tie as tie

@@ -1,8 +1,8 @@
 -- The lines of one card, read from its part of the words.
 use Prim.Native.Nat.{_*_, _≤_}
 use native.Mathlib.Omega.{arith}
-use Rattle.listing.specs.Text.{line-bytes, card-bytes}
-use Rattle.listing.specs.TextLaws.{put-within}
+use Rattle.text.specs.PutLaws.{put-within}
+use Rattle.listing.specs.Sizes.{line-bytes, card-bytes}
 use borrow.Author.Needs.{needs}
 use Rattle.listing.proofs.lines.put_replica.Statement.{statement}
 use Rattle.listing.proofs.lines.put_replica.Tie as tie

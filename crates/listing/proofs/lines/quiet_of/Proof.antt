@@ -1,22 +1,17 @@
--- A Boolean as a number is 1 or 0.
-use mathlib.Core.Path.{_≡_, refl}
-use mathlib.Core.Bool.{Bool, true, false, cond}
-use Prim.Native.Nat.{ℕ}
-use lib.Dec.{eqb}
-use mir.Val.{boolByte}
+-- A truth value as a number is 1 or 0.
+use Rattle.replica.specs.Sums.{flag-is}
 use borrow.Author.Needs.{needs}
 use Rattle.listing.proofs.lines.quiet_of.Statement.{statement}
 use Rattle.listing.proofs.lines.quiet_of.Tie as tie
 
-as-number : (t : Bool) → _≡_ {A = ℕ} (boolByte t) (cond t 1 0)
-as-number true = refl
-as-number false = refl
+is-quiet-requires : tie.Need-is-quiet-requires
+is-quiet-requires c κs = search needs
 
 cast-result : tie.Need-cast-result
 cast-result c = search needs
 
 returns : tie.Need-returns
-returns c = as-number (eqb (c .args .value) 0)
+returns c = rw (← c .is-quiet .ensures) (flag-is (c .is-quiet .result))
 
 pub quiet-of-spec : {M : Type 1} → statement M
-quiet-of-spec = tie.close (tie.spec cast-result returns)
+quiet-of-spec = tie.close (tie.spec is-quiet-requires cast-result returns)

@@ -6,9 +6,10 @@ use native.Mathlib.Omega.{arith}
 use borrow.Author.Tests.{not-true, not-false}
 use denote.Ref.{now}
 use lib.ListN.{length}
-use Rattle.listing.specs.Listing.{input-right}
-use Rattle.listing.specs.Text.{listing-bytes}
-use Rattle.listing.specs.ListingLaws.{Right, right-input, rest-of, listing-refused, listing-right, put-front}
+use Rattle.text.specs.PutLaws.{put-front}
+use Rattle.listing.specs.Listing.{refused-11, sizes-length, input-right}
+use Rattle.listing.specs.Sizes.{listing-bytes}
+use Rattle.listing.specs.ListingLaws.{RightInput, right-input, rest-of, listing-refused, listing-right}
 use borrow.Author.Needs.{needs}
 use Rattle.listing.proofs.list.list.Statement.{statement}
 use Rattle.listing.proofs.list.list.Tie as tie
@@ -27,7 +28,7 @@ returns c =
     let refused = c .before .before .before in
     let tested = refused .before in
     let args = tested .before .before .args in
-    let room : 12 ≤ length (now (args .out)) = omega arith in
+    let room : length refused-11 ≤ length (now (args .out)) = omega arith in
     rw (listing-refused (now (args .input)) (sym (tested .is-right .ensures) ∙ not-true _ (refused .if1 .taken)))
     (put-front (c .put-text .ensures) room)
 
@@ -35,7 +36,7 @@ returns c =
 right : (c : tie.Else1) → input-right (now (c .before .before .before .args .input)) ≡ true
 right c = sym (c .before .is-right .ensures) ∙ not-false _ (c .if1 .left)
 
-sizes : (c : tie.Else1) → Right (now (c .before .before .before .args .input))
+sizes : (c : tie.Else1) → RightInput (now (c .before .before .before .args .input))
 sizes c = right-input (now (c .before .before .before .args .input)) (right c)
 
 read-u32-requires : tie.Need-read-u32-requires
@@ -67,7 +68,7 @@ put-listing-requires c κs =
     let first = second .before in
     let args = first .before .before .before .before .args in
     let room : listing-bytes ≤ length (now (args .out)) = omega arith in
-    (rw (rest-of 8 (now (args .input)), first .read-u32 .ensures, second .read-u322 .ensures) (sizes (first .before) .sized), room)
+    (rw (rest-of sizes-length (now (args .input)), first .read-u32 .ensures, second .read-u322 .ensures) (sizes (first .before) .listable), room)
 
 returns-2 : tie.Need-returns-2
 returns-2 c =
@@ -76,7 +77,7 @@ returns-2 c =
     let args = first .before .before .before .before .args in
     let room : listing-bytes ≤ length (now (args .out)) = omega arith in
     rw (listing-right (now (args .input)) (right (first .before)))
-    (put-front (rw (rest-of 8 (now (args .input)), first .read-u32 .ensures, second .read-u322 .ensures) at (c .put-listing .ensures)) room)
+    (put-front (rw (rest-of sizes-length (now (args .input)), first .read-u32 .ensures, second .read-u322 .ensures) at (c .put-listing .ensures)) room)
 
 pub list-spec : {M : Type 1} → statement M
 list-spec =

@@ -3,7 +3,9 @@ use Prim.Native.Nat.{_*_, _/_, _≤_}
 use native.Mathlib.Omega.{arith}
 use denote.Ref.{now}
 use lib.ListN.{length}
-use Rattle.listing.specs.ListingLaws.{take-replicate, length-front-zeros, run-words}
+use Rattle.chassis_model.specs.Run.{step-length}
+use Rattle.listing.specs.Listing.{most-listed-cards, most-listed-steps, log-bytes}
+use Rattle.listing.specs.ListingLaws.{take-replicate, length-front-zeros, run-words-are}
 use borrow.Author.Needs.{needs}
 use Rattle.listing.proofs.list.run_steps.Statement.{statement}
 use Rattle.listing.proofs.list.run_steps.Tie as tie
@@ -17,8 +19,8 @@ array-borrow-prefix-logs c = search needs
 slice-aggregate-run : tie.Need-slice-aggregate-run
 slice-aggregate-run c =
     let entry = c .before .before .before .before in
-    let few : entry .args .cards * 4096 ≤ 16384 = omega arith in
-    length-front-zeros (entry .args .cards * 4096) 16384 0 few
+    let few : entry .args .cards * log-bytes ≤ most-listed-cards * log-bytes = omega arith in
+    length-front-zeros (entry .args .cards * log-bytes) (most-listed-cards * log-bytes) 0 few
 
 array-borrow-prefix-answers : tie.Need-array-borrow-prefix-answers
 array-borrow-prefix-answers c = search needs
@@ -26,8 +28,8 @@ array-borrow-prefix-answers c = search needs
 slice-aggregate-run-2 : tie.Need-slice-aggregate-run-2
 slice-aggregate-run-2 c =
     let entry = c .before .before .before .before .before in
-    let few : length (now (entry .args .steps)) / 12 ≤ 256 = omega arith in
-    length-front-zeros (length (now (entry .args .steps)) / 12) 256 0 few
+    let few : length (now (entry .args .steps)) / step-length ≤ most-listed-steps = omega arith in
+    length-front-zeros (length (now (entry .args .steps)) / step-length) most-listed-steps 0 few
 
 run-requires : tie.Need-run-requires
 run-requires c κs = search needs
@@ -40,12 +42,12 @@ returns c =
     let done = c .before .before .before .before in
     let entry = done .before .before .before .before .before .before in
     let args = entry .args in
-    let few-cards : args .cards * 4096 ≤ 16384 = omega arith in
-    let few-steps : length (now (args .steps)) / 12 ≤ 256 = omega arith in
-    run-words (args .cards) (args .counters) (now (args .steps)) _ _ _ _ _ _ _
-    (rw (entry .pre .1) at (entry .pre .2))
-    (take-replicate (args .cards * 4096) 16384 0 few-cards)
-    (take-replicate (length (now (args .steps)) / 12) 256 0 few-steps)
+    let few-cards : args .cards * log-bytes ≤ most-listed-cards * log-bytes = omega arith in
+    let few-steps : length (now (args .steps)) / step-length ≤ most-listed-steps = omega arith in
+    run-words-are (args .cards) (args .counters) (now (args .steps)) _ _ _ _ _ _ _
+    (entry .pre .1)
+    (take-replicate (args .cards * log-bytes) (most-listed-cards * log-bytes) 0 few-cards)
+    (take-replicate (length (now (args .steps)) / step-length) most-listed-steps 0 few-steps)
     (done .run .ensures)
 
 pub run-steps-spec : {M : Type 1} → statement M

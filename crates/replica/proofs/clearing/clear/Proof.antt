@@ -1,19 +1,16 @@
--- The refusal says which check failed, or that none did (`sending-refused`, `sending-passed`).
+-- The number says which check failed, or that none did (`send-refused`, `send-passed`).
 use borrow.Author.Needs.{needs}
 use mathlib.Core.Path.{_≡_, sym, _∙_}
-use native.Mathlib.Omega.{arith}
 use denote.Ref.{now}
-use Rattle.replica_model.specs.Layout.{cards}
-use Rattle.replica_model.specs.Calls.{clear-on}
-use Rattle.replica.specs.SendLaws.{Sends, send-refusal, refusal-none, sending-refused, sending-passed}
+use Rattle.protocol.specs.Checks.{first-failing}
+use Rattle.replica_model.specs.Calls.{making-checks, clear-on}
+use Rattle.replica.specs.WordsLaws.{head-inside}
+use Rattle.replica.specs.SendLaws.{sends, send-refused, send-passed}
 use Rattle.replica.proofs.clearing.clear.Statement.{statement}
 use Rattle.replica.proofs.clearing.clear.Tie as tie
 
-none : (c : tie.Else1) → let start = c .before .before .before .before .before in send-refusal (now (start .args .words)) (start .args .counter) ≡ 0
+none : (c : tie.Else1) → let start = c .before .before .before .before .before in first-failing (making-checks (now (start .args .words)) (start .args .counter)) ≡ 0
 none c = sym (c .before .refusal .ensures) ∙ c .if1 .left
-
-sends : (c : tie.Else1) → let start = c .before .before .before .before .before in let b = now (start .args .words) in Sends b (cards b) (start .args .counter)
-sends c = refusal-none _ _ (none c)
 
 refusal-requires : tie.Need-refusal-requires
 refusal-requires c κs = search needs
@@ -28,12 +25,10 @@ returns : tie.Need-returns
 unfolding clear-on
 returns c =
     let number = c .before .before in
-    rw (c .refused .ensures, number .refusal .ensures) (sending-refused _ _ _ _ (rw (number .refusal .ensures) at (c .before .if1 .taken)))
+    rw (c .refused .ensures, number .refusal .ensures) (send-refused _ _ _ _ (rw (number .refusal .ensures) at (c .before .if1 .taken)))
 
 cards-of-requires : tie.Need-cards-of-requires
-cards-of-requires c κs =
-    let h = sends (c .before) in
-    omega arith
+cards-of-requires c κs = head-inside _ (sends _ _ (none (c .before)) .right)
 
 index-requires : tie.Need-index-requires
 index-requires c κs = search needs
@@ -41,7 +36,7 @@ index-requires c κs = search needs
 send-clear-requires : tie.Need-send-clear-requires
 send-clear-requires c κs =
     let found = c .before .before .before in
-    rw (found .cards-of .ensures, c .before .index .ensures) (sends (found .before .before))
+    (found .cards-of .ensures, rw (c .before .index .ensures) (sends _ _ (none (found .before .before))))
 
 same-length-2 : tie.Need-same-length-2
 same-length-2 c = search needs
@@ -55,7 +50,7 @@ returns-2 c =
     let done = c .before .before .before .before in
     let indexed = done .before .before in
     let else1 = indexed .before .before .before .before in
-    (rw (indexed .index .ensures) at (done .send-clear .ensures)) ∙ sending-passed _ _ _ _ (none else1)
+    (rw (indexed .index .ensures) at (done .send-clear .ensures)) ∙ send-passed _ _ _ _ (none else1)
 
 pub clear-spec : {M : Type 1} → statement M
 clear-spec =

@@ -1,20 +1,21 @@
 -- The entries found below j stand first, zeros behind them, and there are at most j (`present-turn`, `present-few`). The message made is that of
--- `clear-message`, by `clear-sent`; it has at most sixteen entries, of cards below r (`made-clear`).
+-- `clear-message` (`clear-made`); it has an entry for each card at most, of cards below r (`made-clear`).
 use borrow.Author.Needs.{needs}
-use Prim.Native.Nat.{_+_, _-_, _≤_}
-use mathlib.Core.Path.{_≡_, refl, sym}
+use Prim.Native.Nat.{_+_, _-_, _≤_, _<_}
+use mathlib.Core.Path.{_≡_, refl, sym, ap, _∙_}
 use mathlib.Core.List.{[], _∷_}
 use native.Mathlib.Omega.{arith}
 use lib.ListN.{length, length-append}
 use denote.Ref.{now}
-use Rattle.protocol.specs.declared.ClearEntry.{ClearEntry}
-use Rattle.protocol.specs.Chassis.{present-entries}
+use Rattle.protocol.specs.Limits.{most-cards}
+use Rattle.protocol.specs.Chassis.{clearing, present-entries}
 use Rattle.wire.specs.declared.Message.{Message}
 use Rattle.wire.specs.Message.{clear-message}
 use Rattle.wire.specs.EntriesLaws.{holding}
 use Rattle.replica_model.specs.Layout.{entry-of}
-use Rattle.replica.specs.Effects.{padded, padded-next, absent-turn, present-turn, present-few}
-use Rattle.replica.specs.SendLaws.{sends-receives, clear-too-long, clear-sent, made-clear}
+use Rattle.replica_model.specs.PresentLaws.{entry-sent, absent-turn, present-turn, present-few}
+use Rattle.replica.specs.WordsLaws.{few-cards, head-inside, row-N}
+use Rattle.replica.specs.SendLaws.{with-room, row-inside, own-below, own-numbers, sends-receives, too-short, was-sent, padded, padded-next, clear-made, MadeClear, made-clear}
 use Rattle.replica.proofs.clearing.send_clear.Statement.{statement}
 use Rattle.replica.proofs.clearing.send_clear.Tie as tie
 
@@ -25,9 +26,15 @@ Inv-loop words r q out own sequence m₀ len₀ j₀ m len j =
 abbrev μ-loop : tie.MeasureT-loop
 μ-loop words r q out own sequence m₀ len₀ j₀ m len j = r - j
 
--- there are no more of them than cards passed
-few : (c : tie.At-loop Inv-loop μ-loop) → c .loop .len ≤ c .loop .j
-few c =
+few : (c : tie.Start Inv-loop μ-loop) → c .args .r ≤ most-cards
+few c = few-cards _ _ _ (row-inside _ _ _ (c .pre .0) (c .pre .1))
+
+own-in : (c : tie.After-own-card Inv-loop μ-loop) → c .own-card .result < c .before .before .before .before .args .r
+own-in c = let pre = c .before .before .before .before .pre in rw (c .own-card .ensures) (own-below _ _ _ (pre .0) (pre .1))
+
+-- there are no more entries than cards passed
+no-more : (c : tie.At-loop Inv-loop μ-loop) → c .loop .len ≤ c .loop .j
+no-more c =
     let start = c .before .before .before .before .before .before .before in
     rw (c .loop .inv .1) (present-few (entry-of (start .args .r) (now (start .args .words)) (start .args .q)) (c .loop .j))
 
@@ -52,34 +59,51 @@ made c =
     let all : at .loop .j ≡ start .args .r = omega arith in
     rw (at .loop .inv .1, at .loop .inv .2, all)
 
+-- and what is known of it
+clear : (c : tie.After-loop Inv-loop μ-loop) → let at = c .before in let start = at .before .before .before .before .before .before .before in let m = at .loop .m in
+    MadeClear (start .args .r) (start .args .q) (entry-of (start .args .r) (now (start .args .words)) (start .args .q)) (record {
+      version = m .version;
+      kind = m .kind;
+      sender = m .sender;
+      sequence = m .sequence;
+      counter = m .counter;
+      p = m .p;
+      start = m .start;
+      len = at .loop .len;
+      entries = m .entries;
+    })
+clear c = let start = c .before .before .before .before .before .before .before .before in made-clear _ _ _ _ _ (few start) _ (made c)
+
 own-card-requires : tie.Need-own-card-requires Inv-loop μ-loop
-own-card-requires c κs = search needs
+own-card-requires c κs = head-inside _ (c .before .before .before .pre .1 .right)
 
 messages-at-requires : tie.Need-messages-at-requires Inv-loop μ-loop
-messages-at-requires c κs = search needs
+messages-at-requires c κs =
+    let mine = c .before in
+    let pre = mine .before .before .before .before .pre in
+    row-N _ _ _ (row-inside _ _ _ (pre .0) (pre .1)) _ (own-in mine)
 
 add-sequence : tie.Need-add-sequence Inv-loop μ-loop
 add-sequence c =
     let mine = c .before .before in
-    let start = mine .before .before .before .before in
-    let few = start .pre .more in
-    omega (arith, rw (mine .own-card .ensures) at (c .messages-at .ensures))
+    let pre = mine .before .before .before .before .pre in
+    rw (c .messages-at .ensures, mine .own-card .ensures) (omega (arith, own-numbers _ _ _ (pre .0) (pre .1)))
 
 cast-t18 : tie.Need-cast-t18 Inv-loop μ-loop
-cast-t18 c = search needs
+cast-t18 c = let mine = c .before .before in omega (arith, own-in mine, few (mine .before .before .before .before))
 
 cast-t19 : tie.Need-cast-t19 Inv-loop μ-loop
-cast-t19 c = search needs
+cast-t19 c = let h = c .before .before .before .before .before .before .pre .1 in omega (arith, h .counter, h .right .sizes .few-counters)
 
 loop-holds : tie.Need-loop-holds Inv-loop μ-loop
 unfolding present-entries
 loop-holds c = (omega arith, refl, refl)
 
 entry-at-requires : tie.Need-entry-at-requires Inv-loop μ-loop
-entry-at-requires c κs = search needs
+entry-at-requires c κs = let start = c .before .before .before .before .before .before .before .before .before in (row-inside _ _ _ (start .pre .0) (start .pre .1), c .before .loop-test .taken)
 
 cast-card : tie.Need-cast-card Inv-loop μ-loop
-cast-card c = search needs
+cast-card c = omega (arith, few (c .before .before .before .before .before .before .before .before .before .before))
 
 add-j : tie.Need-add-j Inv-loop μ-loop
 add-j c = search needs
@@ -97,13 +121,13 @@ loop-again c =
     (omega arith, rw (absent-turn row (at .loop .j) none) (at .loop .inv .1), rw (absent-turn row (at .loop .j) none) (at .loop .inv .2))
 
 mul-t26 : tie.Need-mul-t26 Inv-loop μ-loop
-mul-t26 c = omega (arith, few (c .before .before .before .before .before))
+mul-t26 c = omega (arith, no-more (c .before .before .before .before .before), few (c .before .before .before .before .before .before .before .before .before .before .before .before))
 
 element-set-from-m : tie.Need-element-set-from-m Inv-loop μ-loop
-element-set-from-m c = omega (arith, few (c .before .before .before .before .before))
+element-set-from-m c = omega (arith, no-more (c .before .before .before .before .before), few (c .before .before .before .before .before .before .before .before .before .before .before .before))
 
 add-len : tie.Need-add-len Inv-loop μ-loop
-add-len c = omega (arith, few (c .before .before .before .before .before))
+add-len c = omega (arith, no-more (c .before .before .before .before .before), few (c .before .before .before .before .before .before .before .before .before .before .before .before))
 
 loop-less-2 : tie.Need-loop-less-2 Inv-loop μ-loop
 loop-less-2 c = search needs
@@ -117,15 +141,15 @@ loop-again-2 c =
     let found = read .entry-at .ensures in
     let some : row (at .loop .j) .p ≡ 0 → ⊥ = rw found at (c .if1 .left) in
     let es = present-entries (at .loop .j) row in
-    let e : ClearEntry = record { card = at .loop .j; p = row (at .loop .j) .p; c = row (at .loop .j) .c } in
+    let e = entry-sent row (at .loop .j) in
     let next = present-turn row (at .loop .j) some in (
       omega arith,
       rw (next, at .loop .inv .1) (sym (length-append es (e ∷ []))),
-      rw (next, at .loop .inv .2, at .loop .inv .1, found, padded-next es e (omega (arith, present-few row (at .loop .j)))),
+      rw (next, at .loop .inv .2, at .loop .inv .1, found, padded-next es e (omega (arith, present-few row (at .loop .j), few start))),
     )
 
 length-of-requires : tie.Need-length-of-requires Inv-loop μ-loop
-length-of-requires c κs = let start = c .before .before .before .before .before .before .before .before in made-clear _ _ _ _ _ (start .pre) _ (made c) .2
+length-of-requires c κs = clear c .few
 
 refused-requires : tie.Need-refused-requires Inv-loop μ-loop
 refused-requires c κs = search needs
@@ -138,24 +162,24 @@ returns c =
     let long = c .before .before in
     let after = long .before in
     let start = after .before .before .before .before .before .before .before .before in
-    let facts = made-clear _ _ _ _ _ (start .pre) _ (made after) in
-    rw (c .refused .ensures) (clear-too-long _ _ _ _ (start .pre) _ (rw (facts .1) at (long .length-of .ensures)) (c .before .if2 .taken))
+    let b = now (start .args .words) in
+    let out = now (start .args .out) in
+    rw (c .refused .ensures)
+    (too-short b out (clearing (start .args .q) (present-entries (start .args .r) (entry-of (start .args .r) b (start .args .q)))) (rw (long .length-of .ensures, clear after .length) at (c .before .if2 .taken))
+    ∙ ap (with-room b out) (clear-made b (start .args .q) _ (start .pre .0)))
 
 put-clear-requires : tie.Need-put-clear-requires Inv-loop μ-loop
 put-clear-requires c κs =
     let long = c .before .before in
-    let after = long .before in
-    let start = after .before .before .before .before .before .before .before .before in
-    let facts = made-clear _ _ _ _ _ (start .pre) _ (made after) in
-    (facts .0, facts .2, omega (arith, long .length-of .ensures))
+    let read = clear (long .before) in
+    (read .kind, read .few, omega (arith, long .length-of .ensures))
 
 apply-clear-requires : tie.Need-apply-clear-requires Inv-loop μ-loop
 apply-clear-requires c κs =
     let after = c .before .before .before .before .before .before .before in
     let mine = after .before .before .before .before in
-    let start = mine .before .before .before .before in
-    let facts = made-clear _ _ _ _ _ (start .pre) _ (made after) in
-    rw (mine .own-card .ensures) (sends-receives _ _ _ (start .pre), facts .2, facts .3)
+    let pre = mine .before .before .before .before .pre in
+    rw (mine .own-card .ensures) (sends-receives _ _ _ (pre .0) (pre .1), clear after .few, clear after .below)
 
 same-length-2 : tie.Need-same-length-2 Inv-loop μ-loop
 same-length-2 c = search needs
@@ -173,8 +197,13 @@ returns-2 c =
     let seen = after .before .before in
     let mine = seen .before .before in
     let start = mine .before .before .before .before in
-    clear-sent _ (now (start .args .out)) _ _ (start .pre) _ _ _ _ (mine .own-card .ensures) (seen .messages-at .ensures) _ _ (made after)
-    (long .length-of .ensures) (else2 .if2 .left) (put .put-clear .ensures) (applied .apply-clear .ensures)
+    let b = now (start .args .words) in
+    let out = now (start .args .out) in
+    let first = start .pre .0 in
+    was-sent b out (clearing (start .args .q) (present-entries (start .args .r) (entry-of (start .args .r) b (start .args .q)))) _ _ _ _ _ (mine .own-card .ensures)
+    (rw first at (seen .messages-at .ensures)) (long .length-of .ensures ∙ rw (clear after .length)) (else2 .if2 .left)
+    (put .put-clear .ensures ∙ rw (made after)) (applied .apply-clear .ensures ∙ rw (clear after .entries))
+    ∙ ap (with-room b out) (clear-made b (start .args .q) _ first)
 
 pub send-clear-spec : {M : Type 1} → statement M
 send-clear-spec =

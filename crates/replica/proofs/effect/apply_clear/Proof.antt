@@ -8,16 +8,17 @@ use lib.ListN.{length, take}
 use lib.Seq.{getD-take, length-take-le}
 use Rattle.wire.specs.Message.{no-entry}
 use Rattle.replica_model.specs.Layout.{counters}
+use Rattle.replica.specs.WordsLaws.{row-C, row-N}
 use Rattle.replica.specs.Effects.{Clearing, clearing-begins, next-card, clearing-turn, clearing-ends, clear-taken}
 use Rattle.replica.proofs.Entries.{sixteen}
 use Rattle.replica.proofs.effect.apply_clear.Statement.{statement}
 use Rattle.replica.proofs.effect.apply_clear.Tie as tie
 
 abbrev Inv-loop : tie.InvT-loop
-Inv-loop b₀ r q j m len known i₀ b i = (i ≤ len) × Clearing r (counters b₀) q j (take len (m .entries)) b₀ i b
+Inv-loop words₀ r q j m len received i₀ words i = (i ≤ len) × Clearing r (counters words₀) q j (take len (m .entries)) words₀ i words
 
 abbrev μ-loop : tie.MeasureT-loop
-μ-loop b₀ r q j m len known i₀ b i = len - i
+μ-loop words₀ r q j m len received i₀ words i = len - i
 
 -- the clear has as many entries as its length says
 entries-long : (c : tie.Start Inv-loop μ-loop) → let m = c .args .t5 in length (take (m .len) (m .entries)) ≡ m .len
@@ -27,7 +28,7 @@ entries-long c =
     length-take-le (m .len) (m .entries) (omega arith)
 
 increments-at-requires : tie.Need-increments-at-requires Inv-loop μ-loop
-increments-at-requires c κs = search needs
+increments-at-requires c κs = let h = c .before .before .pre .0 in row-C _ _ _ (h .row) _ (h .card)
 
 loop-holds : tie.Need-loop-holds Inv-loop μ-loop
 loop-holds c =
@@ -69,7 +70,7 @@ receive-requires c κs =
     let at = c .before .before in
     let known = at .before in
     let h = at .loop .inv .1 .receives in
-    (omega arith, omega (arith, known .increments-at .ok), h .N-room)
+    (row-N _ _ _ (h .row) _ (h .card), omega (arith, known .increments-at .ok), h .N-room)
 
 same-length : tie.Need-same-length Inv-loop μ-loop
 same-length c = search needs
@@ -83,7 +84,7 @@ returns c =
     let start = known .before .before .before in
     let all = entries-long start in
     let words = clearing-ends _ _ _ _ _ _ (at .loop .i) _ (at .loop .inv .1) (omega arith) in
-    rw (counted .receive .ensures, known .increments-at .ensures) (clear-taken _ _ _ _ _ (now (start .args .b)) _ (start .pre .0 .card) words)
+    rw (counted .receive .ensures, known .increments-at .ensures) (clear-taken (now (start .args .words)) _ _ _ (start .pre .0) _ _ (start .pre .2) words)
 
 pub apply-clear-spec : {M : Type 1} → statement M
 apply-clear-spec =

@@ -2,13 +2,13 @@
 use borrow.Author.Needs.{needs}
 use native.Mathlib.Omega.{arith}
 use denote.Ref.{now}
-use Rattle.replica_model.specs.Layout.{counters}
+use Rattle.replica.specs.WordsLaws.{row-C, row-N}
 use Rattle.replica.specs.Effects.{Receives, receives-entry, increment-taken}
 use Rattle.replica.proofs.effect.apply_increment.Statement.{statement}
 use Rattle.replica.proofs.effect.apply_increment.Tie as tie
 
 increments-at-requires : tie.Need-increments-at-requires
-increments-at-requires c κs = search needs
+increments-at-requires c κs = let h = c .before .before .pre .0 in row-C _ _ _ (h .row) _ (h .card)
 
 entry-at-requires : tie.Need-entry-at-requires
 entry-at-requires c κs = search needs
@@ -25,8 +25,8 @@ receive-requires c κs =
     let known = stored .before .before .before .before .before in
     let start = known .before .before .before in
     let after : Receives (stored .put-entry .last .0) (start .args .r) (start .args .q) (start .args .j)
-    = rw (stored .put-entry .ensures) (receives-entry (now (start .args .b)) _ _ _ _ (stored .before .incremented-entry .result) (start .pre .0)) in
-    (omega arith, omega (arith, known .increments-at .ensures, start .pre), after .N-room)
+    = rw (stored .put-entry .ensures) (receives-entry (now (start .args .words)) _ _ _ _ (stored .before .incremented-entry .result) (start .pre .0 .card) (start .pre .0)) in
+    (row-N _ _ _ (after .row) _ (after .card), omega (arith, known .increments-at .ensures, start .pre), after .N-room)
 
 same-length : tie.Need-same-length
 same-length c = search needs
@@ -39,9 +39,8 @@ returns c =
     let found = made .before .before in
     let known = found .before .before in
     let start = known .before .before .before in
-    let b = now (start .args .b) in
     rw (counted .receive .ensures, stored .put-entry .ensures, made .incremented-entry .ensures, found .entry-at .ensures, known .increments-at .ensures)
-    (increment-taken (start .args .r) (counters b) (start .args .q) (start .args .j) (start .args .p) (start .args .start) b (start .pre .0 .card))
+    (increment-taken (now (start .args .words)) (start .args .r) (start .args .q) (start .args .j) (start .pre .0) (start .args .p) (start .args .start))
 
 pub apply-increment-spec : {M : Type 1} → statement M
 apply-increment-spec =

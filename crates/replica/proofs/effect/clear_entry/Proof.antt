@@ -1,5 +1,6 @@
 -- The entry that stands there, changed by `cleared`, and put back.
 use borrow.Author.Needs.{needs}
+use Rattle.replica.specs.WordsLaws.{row-C}
 use Rattle.replica.proofs.effect.clear_entry.Statement.{statement}
 use Rattle.replica.proofs.effect.clear_entry.Tie as tie
 
@@ -7,7 +8,7 @@ cast-j : tie.Need-cast-j
 cast-j c = search needs
 
 increments-at-requires : tie.Need-increments-at-requires
-increments-at-requires c κs = search needs
+increments-at-requires c κs = let pre = c .before .before .before .pre in row-C _ _ _ (pre .0) _ (pre .1)
 
 entry-at-requires : tie.Need-entry-at-requires
 entry-at-requires c κs = search needs

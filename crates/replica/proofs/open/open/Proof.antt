@@ -1,14 +1,9 @@
 -- By the one check.
 use mathlib.Core.Path.{sym, _∙_}
-use mathlib.Core.Bool.{_&&_}
-use lib.Dec.{ltb, eqb}
-use lib.ListN.{length}
 use borrow.Author.Needs.{needs}
-use borrow.Author.Tests.{eqb-true, not-true, not-false}
-use denote.Ref.{now}
-use Rattle.protocol.specs.Cases.{and-right}
-use Rattle.replica_model.specs.Layout.{replica-length}
-use Rattle.replica_model.specs.Calls.{sizes-in-range, open-on}
+use borrow.Author.Tests.{not-true, not-false}
+use Rattle.replica_model.specs.Calls.{open-on}
+use Rattle.replica.specs.WordsLaws.{fits-long}
 use Rattle.replica.proofs.open.open.Statement.{statement}
 use Rattle.replica.proofs.open.open.Tie as tie
 
@@ -20,12 +15,7 @@ unfolding open-on
 returns c = rw (sym (c .before .fits2 .ensures) ∙ not-true _ (c .if1 .taken))
 
 write-fresh-requires : tie.Need-write-fresh-requires
-write-fresh-requires c κs =
-    let args = c .before .before .before .before .args in
-    let exact = eqb (length (now (args .words))) (replica-length (args .cards) (args .counters)) in
-    eqb-true _ _
-    (and-right (sizes-in-range (args .cards) (args .counters) && ltb (args .own) (args .cards)) exact
-    (sym (c .before .before .fits2 .ensures) ∙ not-false _ (c .before .if1 .left)))
+write-fresh-requires c κs = fits-long _ _ _ _ (sym (c .before .before .fits2 .ensures) ∙ not-false _ (c .before .if1 .left))
 
 same-length : tie.Need-same-length
 same-length c = search needs

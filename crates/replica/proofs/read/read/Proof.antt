@@ -7,7 +7,8 @@ use borrow.Author.Tests.{not-true, not-false, le-ltb, lt-ltb}
 use denote.Ref.{now}
 use Rattle.replica_model.specs.Layout.{counters}
 use Rattle.replica_model.specs.Calls.{right, row-well-formed, read-on}
-use Rattle.replica.specs.RowFacts.{Row, row, right-long}
+use Rattle.replica_model.specs.RowLaws.{right-facts, row-facts}
+use Rattle.replica.specs.WordsLaws.{RowInside, head-inside}
 use Rattle.replica.proofs.read.read.Statement.{statement}
 use Rattle.replica.proofs.read.read.Tie as tie
 
@@ -20,10 +21,10 @@ counter-below : (c : tie.Else2) → let start = c .before .before .before .befor
 counter-below c = rw (c .before .counters-of .ensures) at (c .if2 .left)
 
 in-row : (c : tie.After-index) → let sized = c .before .before .before in
-    Row (now (sized .before .before .before .before .args .words)) (sized .cards-of .result) (c .index .result)
+    RowInside (now (sized .before .before .before .before .args .words)) (sized .cards-of .result) (c .index .result)
 in-row c =
     let sized = c .before .before .before in
-    rw (sized .cards-of .ensures, c .index .ensures) (row _ _ (is-right (sized .before)) (counter-below (c .before)))
+    record { right = right-facts _ (is-right (sized .before)); first = sized .cards-of .ensures; counter = rw (c .index .ensures) (counter-below (c .before)) }
 
 is-right-requires : tie.Need-is-right-requires
 is-right-requires c κs = search needs
@@ -36,10 +37,10 @@ unfolding read-on
 returns c = simp (sym (c .before .before .is-right .ensures) ∙ not-true _ (c .before .if1 .taken)) (c .refused .ensures)
 
 cards-of-requires : tie.Need-cards-of-requires
-cards-of-requires c κs = right-long _ (is-right c)
+cards-of-requires c κs = head-inside _ (right-facts _ (is-right c))
 
 counters-of-requires : tie.Need-counters-of-requires
-counters-of-requires c κs = right-long _ (is-right (c .before))
+counters-of-requires c κs = head-inside _ (right-facts _ (is-right (c .before)))
 
 refused-requires-2 : tie.Need-refused-requires-2
 refused-requires-2 c κs = search needs
@@ -57,7 +58,7 @@ is-row-well-formed-requires : tie.Need-is-row-well-formed-requires
 is-row-well-formed-requires c κs = in-row c
 
 row-reading-requires : tie.Need-row-reading-requires
-row-reading-requires c κs = (in-row (c .before .before), sym (c .before .is-row-well-formed .ensures) ∙ c .if3 .taken)
+row-reading-requires c κs = (in-row (c .before .before), row-facts _ _ (sym (c .before .is-row-well-formed .ensures) ∙ c .if3 .taken))
 
 returns-3 : tie.Need-returns-3
 unfolding read-on

@@ -14,9 +14,7 @@ use Rattle.protocol.specs.Chassis.{read-value, read-holders}
 use Rattle.protocol.specs.StoreLaws.{shown}
 use Rattle.replica_model.specs.Layout.{entry-of}
 use Rattle.replica_model.specs.Calls.{reading}
-use Rattle.replica.specs.RowFacts.{card-facts}
 use Rattle.protocol.specs.Rows.{WellFormed}
-use Rattle.protocol.specs.Limits.{MAX}
 use Rattle.replica.specs.Sums.{sum-turn, sum-below, bits-turn, bits-below, ones-bits}
 use Rattle.replica.proofs.read.row_reading.Statement.{statement}
 use Rattle.replica.proofs.read.row_reading.Tie as tie
@@ -29,10 +27,10 @@ abbrev held-by : ℕ → List ℕ → ℕ → ℕ → Bool
 held-by r b q j = present (entry-of r b q j)
 
 abbrev Inv-loop : tie.InvT-loop
-Inv-loop b r q value₀ holders₀ j₀ value holders j = (j ≤ r) × (value ≡ sum j (held r b q)) × (holders ≡ bits j (held-by r b q))
+Inv-loop words r q value₀ holders₀ j₀ value holders j = (j ≤ r) × (value ≡ sum j (held r words q)) × (holders ≡ bits j (held-by r words q))
 
 abbrev μ-loop : tie.MeasureT-loop
-μ-loop b r q value₀ holders₀ j₀ value holders j = r - j
+μ-loop words r q value₀ holders₀ j₀ value holders j = r - j
 
 loop-holds : tie.Need-loop-holds Inv-loop μ-loop
 unfolding sum bits
@@ -42,8 +40,8 @@ entry-at-requires : tie.Need-entry-at-requires Inv-loop μ-loop
 entry-at-requires c κs = search needs
 
 -- what the row says of card j's entry
-known : (c : tie.Start Inv-loop μ-loop) (j : ℕ) → j < c .args .r → WellFormed MAX (entry-of (c .args .r) (now (c .args .b)) (c .args .q) j)
-known c j l = rw (c .pre .0 .first) (card-facts (now (c .args .b)) (c .args .q) (c .pre .1) j (rw (← c .pre .0 .first) l) .entry)
+known : (c : tie.Start Inv-loop μ-loop) (j : ℕ) → j < c .args .r → WellFormed MAX (entry-of (c .args .r) (now (c .args .words)) (c .args .q) j)
+known c j l = rw (c .pre .0 .first) (c .pre .1 .entry j (rw (c .pre .0 .first) at l))
 
 -- the entry that a turn reads
 entry-small : (c : tie.After-entry-at Inv-loop μ-loop) → WellFormed MAX (c .entry-at .result)
@@ -55,7 +53,7 @@ value-small c =
     let at = c .before in
     let start = at .before .before in
     rw (at .loop .inv .1)
-    (sum-below (at .loop .j) MAX (held (start .args .r) (now (start .args .b)) (start .args .q))
+    (sum-below (at .loop .j) MAX (held (start .args .r) (now (start .args .words)) (start .args .q))
     (λ k l. let small = known start k (omega arith) in omega arith))
 
 sub-value : tie.Need-sub-value Inv-loop μ-loop
@@ -92,8 +90,8 @@ loop-again c =
     let args = at .before .before .args in
     let e = found .entry-at .ensures in (
       search needs,
-      rw (at .loop .inv .1, e) (sum-turn (at .loop .j) (held (args .r) (now (args .b)) (args .q))),
-      rw (at .loop .inv .2, c .bit-of .ensures, c .before .is-present .ensures, e) (bits-turn (at .loop .j) (held-by (args .r) (now (args .b)) (args .q)) (omega arith)),
+      rw (at .loop .inv .1, e) (sum-turn (at .loop .j) (held (args .r) (now (args .words)) (args .q))),
+      rw (at .loop .inv .2, c .bit-of .ensures, c .before .is-present .ensures, e) (bits-turn (at .loop .j) (held-by (args .r) (now (args .words)) (args .q)) (omega arith)),
     )
 
 wide-requires : tie.Need-wide-requires Inv-loop μ-loop
@@ -103,7 +101,7 @@ cast-t15 : tie.Need-cast-t15 Inv-loop μ-loop
 cast-t15 c =
     let at = c .before .before in
     let args = at .before .before .args in
-    omega (arith, ones-le (at .loop .j) (at .loop .holders) (rw (at .loop .inv .2) (bits-below (at .loop .j) (held-by (args .r) (now (args .b)) (args .q)))))
+    omega (arith, ones-le (at .loop .j) (at .loop .holders) (rw (at .loop .inv .2) (bits-below (at .loop .j) (held-by (args .r) (now (args .words)) (args .q)))))
 
 returns : tie.Need-returns Inv-loop μ-loop
 unfolding reading read-value read-holders shown

@@ -1,15 +1,14 @@
--- Each return is the case of `send-refusal` where the checks before it have passed; they also give what the next one asks.
+-- Each return is the number of the first check that fails; the checks before it, which passed, give what the next one asks.
 use borrow.Author.Needs.{needs}
 use mathlib.Core.Path.{_≡_, sym, _∙_}
 use mathlib.Core.Bool.{true}
 use Prim.Native.Nat.{_<_}
-use native.Mathlib.Omega.{arith}
 use denote.Ref.{now}
 use borrow.Author.Tests.{not-true, not-false, lt-ltb, le-ltb, eq-eqb, ne-eqb}
 use Rattle.replica_model.specs.Layout.{cards, counters, own-card, N-of}
 use Rattle.replica_model.specs.Calls.{right, row-well-formed}
-use Rattle.replica.specs.RowFacts.{Row, right-long, row}
-use Rattle.replica.specs.SendLaws.{send-refusal}
+use Rattle.replica_model.specs.RowLaws.{right-facts}
+use Rattle.replica.specs.WordsLaws.{RowInside, head-inside, row-N}
 use Rattle.replica.proofs.sending.refusal.Statement.{statement}
 use Rattle.replica.proofs.sending.refusal.Tie as tie
 
@@ -20,8 +19,8 @@ is-below : (c : tie.Else2) → let start = c .before .before .before .before .be
 is-below c = rw (c .before .counters-of .ensures) at (c .if2 .left)
 
 is-row : (c : tie.Else2) → let found = c .before .before in let start = found .before .before .before .before in
-    Row (now (start .args .words)) (found .cards-of .result) (start .args .counter)
-is-row c = rw (c .before .before .cards-of .ensures) (row _ _ (is-right (c .before .before .before)) (is-below c))
+    RowInside (now (start .args .words)) (found .cards-of .result) (start .args .counter)
+is-row c = let found = c .before .before in record { right = right-facts _ (is-right (found .before)); first = found .cards-of .ensures; counter = is-below c }
 
 is-formed : (c : tie.Else3) → let start = c .before .before .before .before .before .before .before .before .before in
     row-well-formed (now (start .args .words)) (start .args .counter) ≡ true
@@ -38,17 +37,15 @@ is-right-requires : tie.Need-is-right-requires
 is-right-requires c κs = search needs
 
 returns : tie.Need-returns
-unfolding send-refusal
 returns c = rw (sym (c .before .is-right .ensures) ∙ not-true _ (c .if1 .taken))
 
 cards-of-requires : tie.Need-cards-of-requires
-cards-of-requires c κs = right-long _ (is-right c)
+cards-of-requires c κs = head-inside _ (right-facts _ (is-right c))
 
 counters-of-requires : tie.Need-counters-of-requires
-counters-of-requires c κs = right-long _ (is-right (c .before))
+counters-of-requires c κs = head-inside _ (right-facts _ (is-right (c .before)))
 
 returns-2 : tie.Need-returns-2
-unfolding send-refusal
 returns-2 c =
     let k = c .before in
     rw (is-right (k .before .before), le-ltb _ _ (rw (k .counters-of .ensures) at (c .if2 .taken)))
@@ -60,7 +57,6 @@ is-row-well-formed-requires : tie.Need-is-row-well-formed-requires
 is-row-well-formed-requires c κs = rw (c .index .ensures) (is-row (c .before))
 
 returns-3 : tie.Need-returns-3
-unfolding send-refusal
 returns-3 c =
     let checked = c .before in
     let else2 = checked .before .before in
@@ -70,15 +66,14 @@ returns-3 c =
 own-card-requires : tie.Need-own-card-requires
 own-card-requires c κs =
     let else2 = c .before .before .before in
-    right-long _ (is-right (else2 .before .before .before))
+    head-inside _ (right-facts _ (is-right (else2 .before .before .before)))
 
 messages-at-requires : tie.Need-messages-at-requires
 messages-at-requires c κs =
     let h = is-row (c .before .before .before .before) in
-    omega (arith, c .own-card .ensures)
+    row-N _ _ _ h _ (rw (h .first, c .own-card .ensures) (h .right .own))
 
 returns-4 : tie.Need-returns-4
-unfolding send-refusal
 returns-4 c =
     let read = c .before in
     let else3 = read .before .before in
@@ -86,7 +81,6 @@ returns-4 c =
     rw (is-right (else2 .before .before .before), lt-ltb _ _ (is-below else2), is-formed else3, eq-eqb _ _ (sym (own-messages read) ∙ c .if4 .taken))
 
 returns-5 : tie.Need-returns-5
-unfolding send-refusal
 returns-5 c =
     let read = c .before in
     let else3 = read .before .before in

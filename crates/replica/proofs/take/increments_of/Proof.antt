@@ -1,17 +1,13 @@
 -- By the test; C of a card below r stands inside a replica that is right.
-use native.Mathlib.Omega.{arith}
-use borrow.Author.Needs.{needs}
 use borrow.Author.Tests.{lt-ltb, le-ltb}
-use denote.Ref.{now}
-use Rattle.replica.specs.RowFacts.{right-inside}
+use Rattle.replica.specs.WordsLaws.{C-inside}
 use Rattle.replica.proofs.take.increments_of.Statement.{statement}
 use Rattle.replica.proofs.take.increments_of.Tie as tie
 
 increments-at-requires : tie.Need-increments-at-requires
 increments-at-requires c κs =
-    let start = c .before .before in
-    let inside = right-inside (now (start .args .b)) (start .pre .1) in
-    omega (arith, start .pre .0, inside)
+    let pre = c .before .before .pre in
+    C-inside _ (pre .1) _ (rw (pre .0) at (c .if1 .taken))
 
 returns : tie.Need-returns
 returns c = let then1 = c .before in rw (lt-ltb _ _ (then1 .if1 .taken)) (c .increments-at .ensures)

@@ -1,7 +1,7 @@
 -- The tests are those of `increment-implausible`.
 use mathlib.Core.Path.{refl}
 use borrow.Author.Needs.{needs}
-use Rattle.replica_model.specs.Calls.{increment-implausible}
+use Rattle.protocol.specs.Acceptance.{increment-implausible}
 use Rattle.replica.proofs.take.is_increment_plausible.Statement.{statement}
 use Rattle.replica.proofs.take.is_increment_plausible.Tie as tie
 

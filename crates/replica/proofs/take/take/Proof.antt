@@ -1,16 +1,16 @@
 -- By the two checks and the kind in turn; bytes that read are a message in range.
-use mathlib.Core.Path.{_≡_, sym, _∙_}
+use mathlib.Core.Path.{_≡_, sym, ap, _∙_}
 use mathlib.Core.Bool.{true}
 use native.Mathlib.Omega.{arith}
 use borrow.Author.Needs.{needs}
 use borrow.Author.Tests.{not-true, not-false}
 use denote.Ref.{now}
-use Rattle.wire.specs.Number.{int-at}
-use Rattle.wire.specs.Message.{clear-kind, reads}
-use Rattle.wire.specs.MessagePartsLaws.{header-read, increment-read}
-use Rattle.wire.specs.RoundTrips.{read-long, read-exact, read-increment}
-use Rattle.replica_model.specs.Calls.{right, take-on}
-use Rattle.replica.specs.Taking.{read-p}
+use Rattle.wire.specs.Message.{reads}
+use Rattle.wire.specs.RoundTrips.{read-long}
+use Rattle.replica_model.specs.Calls.{right, take-with}
+use Rattle.replica_model.specs.RowLaws.{right-facts}
+use Rattle.replica.specs.ReadParts.{body-room, increment-received, increment-some}
+use Rattle.replica.specs.Taking.{judged}
 use Rattle.replica.proofs.take.take.Statement.{statement}
 use Rattle.replica.proofs.take.take.Tie as tie
 
@@ -20,11 +20,6 @@ is-right c = sym (c .before .is-right .ensures) ∙ not-false _ (c .if1 .left)
 
 read-yes : (c : tie.Else2) → reads (now (c .before .before .before .before .before .before .before .args .message)) ≡ true
 read-yes c = sym (c .before .reads .ensures) ∙ not-false _ (c .if2 .left)
-
-no-clear : (c : tie.Else3) → int-at (now (c .before .before .before .before .before .before .before .before .before .before .args .message)) 4 ≡ clear-kind → ⊥
-no-clear c e =
-    let header = c .before .before in
-    c .if3 .left (header-read _ (header .header-from .result) (header .header-from .ensures) .kind ∙ e)
 
 is-right-requires : tie.Need-is-right-requires
 is-right-requires c κs = search needs
@@ -36,7 +31,7 @@ same-length : tie.Need-same-length
 same-length c = search needs
 
 returns : tie.Need-returns
-unfolding take-on
+unfolding take-with
 returns c =
     let then1 = c .before in
     rw (c .refused .ensures, sym (then1 .before .is-right .ensures) ∙ not-true _ (then1 .if1 .taken))
@@ -51,7 +46,7 @@ same-length-2 : tie.Need-same-length-2
 same-length-2 c = search needs
 
 returns-2 : tie.Need-returns-2
-unfolding take-on
+unfolding take-with
 returns-2 c =
     let then2 = c .before in
     let read = then2 .before in
@@ -65,13 +60,13 @@ take-clear-requires c κs =
     let then3 = c .before in
     let header = then3 .before .before in
     let else2 = header .before in
-    (is-right (else2 .before .before), read-yes else2, header .header-from .ensures, then3 .if3 .taken)
+    (right-facts _ (is-right (else2 .before .before)), read-yes else2, header .header-from .ensures, then3 .if3 .taken)
 
 same-length-3 : tie.Need-same-length-3
 same-length-3 c = search needs
 
 returns-3 : tie.Need-returns-3
-unfolding take-on
+unfolding take-with
 returns-3 c =
     let taken = c .before .before in
     let else2 = taken .before .before .before .before .before in
@@ -80,8 +75,7 @@ returns-3 c =
 increment-from-requires : tie.Need-increment-from-requires
 increment-from-requires c κs =
     let header = c .before .before in
-    let h = header-read _ (header .header-from .result) (header .header-from .ensures) in
-    omega (arith, h .behind, read-exact _ (read-yes (header .before)) (no-clear c))
+    body-room _ (read-yes (header .before)) _ (header .header-from .ensures) (c .if3 .left)
 
 take-increment-requires : tie.Need-take-increment-requires
 take-increment-requires c κs =
@@ -89,25 +83,22 @@ take-increment-requires c κs =
     let else3 = body .before in
     let header = else3 .before .before in
     let else2 = header .before in
-    let b = increment-read _ (header .header-from .result) (header .header-from .ensures) (body .increment-from .result) (body .increment-from .ensures) in
-    (is-right (else2 .before .before), rw (b .p) (read-p _ (read-yes else2) (no-clear else3)))
+    (right-facts _ (is-right (else2 .before .before)), increment-some _ (read-yes else2) _ (header .header-from .ensures) (else3 .if3 .left) _ (body .increment-from .ensures))
 
 same-length-4 : tie.Need-same-length-4
 same-length-4 c = search needs
 
 returns-4 : tie.Need-returns-4
-unfolding take-on
+unfolding take-with
 returns-4 c =
     let taken = c .before .before in
     let body = taken .before .before in
     let else3 = body .before in
     let header = else3 .before .before in
     let else2 = header .before in
-    let s = now (else2 .before .before .before .before .before .before .before .args .message) in
-    let h = header-read s (header .header-from .result) (header .header-from .ensures) in
-    let b = increment-read s (header .header-from .result) (header .header-from .ensures) (body .increment-from .result) (body .increment-from .ensures) in
+    let start = else2 .before .before .before .before .before .before .before in
     rw (is-right (else2 .before .before), read-yes else2)
-    (rw (h .sender, h .sequence, h .counter, b .p, b .start, ← read-increment s (no-clear else3)) at (taken .take-increment .ensures))
+    (taken .take-increment .ensures ∙ ap (judged (now (start .args .words))) (increment-received _ (read-yes else2) _ (header .header-from .ensures) (else3 .if3 .left) _ (body .increment-from .ensures)))
 
 pub take-spec : {M : Type 1} → statement M
 take-spec =

@@ -1,19 +1,35 @@
--- The number of the shared checks, then whether the increment is plausible; past both, the effector leaves what `taking` says.
+-- The number of the shared checks, then whether the increment is plausible; past both, the effector leaves what `judged` says.
 use mathlib.Core.Path.{_≡_, sym, _∙_}
-use mathlib.Core.Bool.{true}
 use native.Mathlib.Omega.{arith}
 use borrow.Author.Needs.{needs}
 use borrow.Author.Tests.{not-true, not-false}
 use denote.Ref.{now}
-use Rattle.replica.specs.RowFacts.{right-long}
-use Rattle.replica.specs.Taking.{refusal, is-passed, sender-facts, sender-inside, receives, increment-refused, increment-declined, increment-taken}
+use Rattle.protocol.specs.Checks.{first-failing}
+use Rattle.protocol.specs.Acceptance.{plausible}
+use Rattle.replica_model.specs.Layout.{own-card, C-of}
+use Rattle.replica.specs.WordsLaws.{head-inside, C-inside}
+use Rattle.replica.specs.ReadParts.{increment-from}
+use Rattle.replica.specs.Taking.{increment-given, shared-checks, taking-refused, taking-declined, was-taken, Passed, is-passed, receives, C-most}
 use Rattle.replica.proofs.take.take_increment.Statement.{statement}
 use Rattle.replica.proofs.take.take_increment.Tie as tie
 
--- none of the shared checks fails
-none : (c : tie.Else1) → let start = c .before .before .before .before in let header = start .args .header in
-    refusal (now (start .args .words)) (header .counter) (header .sender) (header .sequence) true ≡ 0
-none c = sym (c .before .refusal-of .ensures) ∙ c .if1 .left
+-- the number of the shared checks, of the message that header and body make
+number-is : (c : tie.After-refusal-of) → let args = c .before .before .before .args in
+    c .refusal-of .result ≡ first-failing (shared-checks (now (args .words)) (increment-from (args .header) (args .body)))
+number-is c = let args = c .before .before .before .args in c .refusal-of .ensures (increment-from (args .header) (args .body)) (increment-given _ (args .header) (args .body))
+
+-- none of them fails
+none : (c : tie.Else1) → let args = c .before .before .before .before .args in first-failing (shared-checks (now (args .words)) (increment-from (args .header) (args .body))) ≡ 0
+none c = sym (number-is (c .before)) ∙ c .if1 .left
+
+passed : (c : tie.Else1) → let args = c .before .before .before .before .args in Passed (now (args .words)) (increment-from (args .header) (args .body))
+passed c = is-passed _ _ (none c)
+
+-- the last check
+tested : (c : tie.After-is-increment-plausible) → let args = c .before .before .before .before .before .before .before .before .before .args in let b = now (args .words) in
+    c .is-increment-plausible .result ≡ plausible (C-of b) (own-card b) (args .header .sender) (increment-from (args .header) (args .body) .content)
+unfolding plausible
+tested c = c .is-increment-plausible .ensures ∙ rw (c .before .increments-at .ensures)
 
 refusal-of-requires : tie.Need-refusal-of-requires
 refusal-of-requires c κs = c .before .before .pre .0
@@ -26,24 +42,20 @@ same-length c = search needs
 
 returns : tie.Need-returns
 returns c =
-    let checked = c .before .before in
-    let start = checked .before .before .before in
-    let header = start .args .header in
-    let body = start .args .body in
-    rw (c .refused .ensures, checked .refusal-of .ensures)
-    (increment-refused (now (start .args .words)) (header .sender) (header .sequence) (header .counter) (body .p) (body .start) (λ e. c .before .if1 .taken (checked .refusal-of .ensures ∙ e)))
+    let number = c .before .before in
+    let args = number .before .before .before .args in
+    rw (c .refused .ensures, number-is number) (taking-refused (now (args .words)) (increment-from (args .header) (args .body)) (λ e. c .before .if1 .taken (number-is number ∙ e)))
 
 cast-sender : tie.Need-cast-sender
 cast-sender c = search needs
 
 increments-at-requires : tie.Need-increments-at-requires
-increments-at-requires c κs = let else1 = c .before .before .before in sender-inside _ _ _ _ _ (else1 .before .before .before .before .pre .0) (is-passed _ _ _ _ _ (none else1))
+increments-at-requires c κs =
+    let else1 = c .before .before .before in
+    C-inside _ (else1 .before .before .before .before .pre .0) _ (passed else1 .sender)
 
 is-increment-plausible-requires : tie.Need-is-increment-plausible-requires
-is-increment-plausible-requires c κs =
-    let else1 = c .before .before .before .before in
-    let card = sender-facts _ _ _ _ _ (else1 .before .before .before .before .pre .0) (is-passed _ _ _ _ _ (none else1)) in
-    omega (arith, c .increments-at .ensures)
+is-increment-plausible-requires c κs = rw (c .increments-at .ensures) (C-most _ _ (passed (c .before .before .before .before)))
 
 refused-requires-2 : tie.Need-refused-requires-2
 refused-requires-2 c κs = search needs
@@ -53,17 +65,12 @@ same-length-2 c = search needs
 
 returns-2 : tie.Need-returns-2
 returns-2 c =
-    let tested = c .before .before in
-    let else1 = tested .before .before .before .before .before in
-    let start = else1 .before .before .before .before in
-    let header = start .args .header in
-    let body = start .args .body in
-    rw (c .refused2 .ensures)
-    (increment-declined (now (start .args .words)) (header .sender) (header .sequence) (header .counter) (body .p) (body .start) (none else1)
-    (rw (← tested .before .increments-at .ensures) (sym (tested .is-increment-plausible .ensures) ∙ not-true _ (c .before .if2 .taken))))
+    let then2 = c .before in
+    let judge = then2 .before in
+    rw (c .refused2 .ensures) (taking-declined _ _ (none (judge .before .before .before .before .before)) (sym (tested judge) ∙ not-true _ (then2 .if2 .taken)))
 
 cards-of-requires : tie.Need-cards-of-requires
-cards-of-requires c κs = right-long _ (c .before .before .before .before .before .before .before .before .before .before .before .pre .0)
+cards-of-requires c κs = head-inside _ (c .before .before .before .before .before .before .before .before .before .before .before .pre .0)
 
 cast-apply-increment : tie.Need-cast-apply-increment
 cast-apply-increment c = search needs
@@ -72,10 +79,8 @@ apply-increment-requires : tie.Need-apply-increment-requires
 apply-increment-requires c κs =
     let sized = c .before .before in
     let else1 = sized .before .before .before .before .before .before .before .before in
-    let start = else1 .before .before .before .before in
-    let passed = is-passed _ _ _ _ _ (none else1) in
-    let card = sender-facts _ _ _ _ _ (start .pre .0) passed in
-    (rw (sized .cards-of .ensures) (receives _ _ _ _ _ (start .pre .0) passed), start .pre .1, omega arith)
+    let pre = else1 .before .before .before .before .pre in
+    (rw (sized .cards-of .ensures) (receives _ _ (pre .0) (passed else1)), pre .1, omega (arith, C-most _ _ (passed else1)))
 
 same-length-3 : tie.Need-same-length-3
 same-length-3 c = search needs
@@ -85,14 +90,8 @@ returns-3 c =
     let applied = c .before .before in
     let sized = applied .before .before .before in
     let else2 = sized .before .before in
-    let tested = else2 .before in
-    let else1 = tested .before .before .before .before .before in
-    let start = else1 .before .before .before .before in
-    let header = start .args .header in
-    let body = start .args .body in
-    increment-taken (now (start .args .words)) (header .sender) (header .sequence) (header .counter) (body .p) (body .start) (none else1) _
-    (rw (← tested .before .increments-at .ensures) (sym (tested .is-increment-plausible .ensures) ∙ not-false _ (else2 .if2 .left)))
-    (rw (sized .cards-of .ensures) at (applied .apply-increment .ensures))
+    let judge = else2 .before in
+    was-taken _ _ (none (judge .before .before .before .before .before)) _ (sym (tested judge) ∙ not-false _ (else2 .if2 .left)) (applied .apply-increment .ensures)
 
 pub take-increment-spec : {M : Type 1} → statement M
 take-increment-spec =

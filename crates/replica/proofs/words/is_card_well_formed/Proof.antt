@@ -1,7 +1,7 @@
 -- The tests are those of `card-well-formed` in turn, of words read by functions that say which word they read.
 use borrow.Author.Needs.{needs}
 use borrow.Author.Tests.{le-leb, lt-leb}
-use Rattle.replica_model.specs.Calls.{card-well-formed}
+use Rattle.protocol.specs.Acceptance.{card-well-formed}
 use Rattle.replica.proofs.words.is_card_well_formed.Statement.{statement}
 use Rattle.replica.proofs.words.is_card_well_formed.Tie as tie
 

@@ -1,6 +1,6 @@
 -- By the tests in turn: p tells which half of `entry-well-formed` decides, and each test past it is one of that half's.
 use borrow.Author.Tests.{le-leb, lt-leb}
-use Rattle.replica.specs.RowFacts.{absent-formed, present-formed}
+use Rattle.replica.specs.WordsLaws.{absent-formed, present-formed}
 use Rattle.replica.proofs.words.is_entry_well_formed.Statement.{statement}
 use Rattle.replica.proofs.words.is_entry_well_formed.Tie as tie
 

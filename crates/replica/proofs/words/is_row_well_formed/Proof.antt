@@ -6,16 +6,15 @@ use native.Mathlib.Omega.{arith}
 use borrow.Author.Count.{below-none, below-more}
 use borrow.Author.Needs.{needs}
 use borrow.Author.Tests.{not-true, not-false}
-use Rattle.replica_model.specs.Calls.{card-well-formed}
-use Rattle.replica.specs.RowFacts.{row-fails, row-passes}
+use Rattle.replica.specs.WordsLaws.{card-formed, row-fails, row-passes}
 use Rattle.replica.proofs.words.is_row_well_formed.Statement.{statement}
 use Rattle.replica.proofs.words.is_row_well_formed.Tie as tie
 
 abbrev Inv-loop : tie.InvT-loop
-Inv-loop b r q j₀ j = (j ≤ r) × ((i : ℕ) → i < j → card-well-formed r b q i ≡ true)
+Inv-loop words r q j₀ j = (j ≤ r) × ((i : ℕ) → i < j → card-formed r words q i ≡ true)
 
 abbrev μ-loop : tie.MeasureT-loop
-μ-loop b r q j₀ j = r - j
+μ-loop words r q j₀ j = r - j
 
 loop-holds : tie.Need-loop-holds Inv-loop μ-loop
 loop-holds c = (search needs, below-none _)

@@ -5,29 +5,29 @@ use borrow.Author.Needs.{needs}
 use Rattle.replica.proofs.words.put_three.Statement.{statement}
 use Rattle.replica.proofs.words.put_three.Tie as tie
 
-mul-b : tie.Need-mul-b
-mul-b c = search needs
+mul-words : tie.Need-mul-words
+mul-words c = search needs
 
-slice-write-b : tie.Need-slice-write-b
-slice-write-b c = search needs
+slice-write-words : tie.Need-slice-write-words
+slice-write-words c = search needs
 
-add-b : tie.Need-add-b
-add-b c = search needs
+add-words : tie.Need-add-words
+add-words c = search needs
 
-mul-b-2 : tie.Need-mul-b-2
-mul-b-2 c = search needs
+mul-words-2 : tie.Need-mul-words-2
+mul-words-2 c = search needs
 
-slice-write-b-2 : tie.Need-slice-write-b-2
-slice-write-b-2 c = simp length-set (omega arith)
+slice-write-words-2 : tie.Need-slice-write-words-2
+slice-write-words-2 c = simp length-set (omega arith)
 
-add-b-2 : tie.Need-add-b-2
-add-b-2 c = search needs
+add-words-2 : tie.Need-add-words-2
+add-words-2 c = search needs
 
-mul-b-3 : tie.Need-mul-b-3
-mul-b-3 c = search needs
+mul-words-3 : tie.Need-mul-words-3
+mul-words-3 c = search needs
 
-slice-write-b-3 : tie.Need-slice-write-b-3
-slice-write-b-3 c = search needs
+slice-write-words-3 : tie.Need-slice-write-words-3
+slice-write-words-3 c = search needs
 
 same-length : tie.Need-same-length
 same-length c = search needs
@@ -39,13 +39,13 @@ pub put-three-spec : {M : Type 1} → statement M
 put-three-spec =
     tie.close
     (tie.spec
-    mul-b
-    slice-write-b
-    add-b
-    mul-b-2
-    slice-write-b-2
-    add-b-2
-    mul-b-3
-    slice-write-b-3
+    mul-words
+    slice-write-words
+    add-words
+    mul-words-2
+    slice-write-words-2
+    add-words-2
+    mul-words-3
+    slice-write-words-3
     same-length
     returns)

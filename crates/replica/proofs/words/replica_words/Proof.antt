@@ -1,4 +1,4 @@
--- r and k are small, so their product is at most 1024.
+-- r and k are small, so their product is.
 use native.Mathlib.Nat.{mul-le-mul}
 use native.Mathlib.Omega.{arith}
 use borrow.Author.Needs.{needs}

@@ -5,14 +5,14 @@ use borrow.Author.Needs.{needs}
 use Rattle.replica.proofs.words.set_head.Statement.{statement}
 use Rattle.replica.proofs.words.set_head.Tie as tie
 
-slice-write-b : tie.Need-slice-write-b
-slice-write-b c = search needs
+slice-write-words : tie.Need-slice-write-words
+slice-write-words c = search needs
 
-slice-write-b-2 : tie.Need-slice-write-b-2
-slice-write-b-2 c = simp length-set (omega arith)
+slice-write-words-2 : tie.Need-slice-write-words-2
+slice-write-words-2 c = simp length-set (omega arith)
 
-slice-write-b-3 : tie.Need-slice-write-b-3
-slice-write-b-3 c = simp length-set (omega arith)
+slice-write-words-3 : tie.Need-slice-write-words-3
+slice-write-words-3 c = simp length-set (omega arith)
 
 same-length : tie.Need-same-length
 same-length c = search needs
@@ -22,4 +22,4 @@ returns c = search needs
 
 pub set-head-spec : {M : Type 1} → statement M
 set-head-spec =
-    tie.close (tie.spec slice-write-b slice-write-b-2 slice-write-b-3 same-length returns)
+    tie.close (tie.spec slice-write-words slice-write-words-2 slice-write-words-3 same-length returns)

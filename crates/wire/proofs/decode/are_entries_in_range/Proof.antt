@@ -7,14 +7,14 @@ use native.Mathlib.Nat.{sub-zero}
 use native.Mathlib.Omega.{arith}
 use lib.ListN.{length}
 use denote.Ref.{now}
-use Rattle.wire.specs.Message.{entries-at, entries-in-range}
+use Rattle.wire.specs.Message.{entry-length, entries-at, entries-in-range}
 use Rattle.wire.specs.EntriesLaws.{entries-passed, entries-failed}
 use Rattle.wire.specs.MessagePartsLaws.{entry-part}
 use Rattle.wire.proofs.decode.are_entries_in_range.Statement.{statement}
 use Rattle.wire.proofs.decode.are_entries_in_range.Tie as tie
 
 abbrev Inv-loop : tie.InvT-loop
-Inv-loop bytes at count low₀ place₀ i₀ low place i = (i ≤ count) × (place + 20 * (count - i) ≤ length bytes) × (entries-in-range low (entries-at (count - i) bytes place) ≡ entries-in-range 0 (entries-at count bytes at))
+Inv-loop bytes at count low₀ place₀ i₀ low place i = (i ≤ count) × (place + entry-length * (count - i) ≤ length bytes) × (entries-in-range low (entries-at (count - i) bytes place) ≡ entries-in-range 0 (entries-at count bytes at))
 
 abbrev μ-loop : tie.MeasureT-loop
 μ-loop bytes at count low₀ place₀ i₀ low place i = count - i

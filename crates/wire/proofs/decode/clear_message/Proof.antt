@@ -6,7 +6,8 @@ use Prim.Native.Nat.{_+_, _-_, _*_, _≤_}
 use native.Mathlib.Omega.{arith}
 use lib.ListN.{length, replicate}
 use denote.Ref.{now}
-use Rattle.wire.specs.Message.{no-entry, entries-at}
+use Rattle.protocol.specs.Limits.{most-cards}
+use Rattle.wire.specs.Message.{entry-length, no-entry, entries-at}
 use Rattle.wire.specs.EntriesLaws.{holding, entries-stored}
 use Rattle.wire.specs.MessagePartsLaws.{HeaderRead, header-read, CountRead, count-read, entry-part}
 use Rattle.wire.specs.RoundTrips.{read-long, read-count, clear-parts}
@@ -14,7 +15,7 @@ use Rattle.wire.proofs.decode.clear_message.Statement.{statement}
 use Rattle.wire.proofs.decode.clear_message.Tie as tie
 
 abbrev Inv-loop : tie.InvT-loop
-Inv-loop bytes len m₀ place₀ i₀ m place i = (i ≤ len) × (len ≤ 16) × (place₀ + 20 * len ≤ length bytes) × (place ≡ place₀ + 20 * i) × (m ≡ holding m₀ (entries-at i bytes place₀ ++ replicate (16 - i) no-entry))
+Inv-loop bytes len m₀ place₀ i₀ m place i = (i ≤ len) × (len ≤ most-cards) × (place₀ + entry-length * len ≤ length bytes) × (place ≡ place₀ + entry-length * i) × (m ≡ holding m₀ (entries-at i bytes place₀ ++ replicate (most-cards - i) no-entry))
 
 abbrev μ-loop : tie.MeasureT-loop
 μ-loop bytes len m₀ place₀ i₀ m place i = len - i
@@ -70,11 +71,10 @@ returns c =
     let at = c .before in
     let word = at .before .before in
     let start = word .before .before in
-    let h = sent start in
     let n = counted word in
     let all : at .loop .i ≡ word .next-int .result .number = omega arith in
     at .loop .inv .4
-    ∙ rw (all, n .number, n .behind, h .sender, h .sequence, h .counter) (clear-parts (now (start .args .bytes)) (sym (h .kind) ∙ start .pre .2))
+    ∙ rw (all, n .number, n .behind, start .pre .1) (clear-parts (now (start .args .bytes)) (sym (sent start .kind) ∙ start .pre .2))
 
 pub clear-message-spec : {M : Type 1} → statement M
 clear-message-spec =

@@ -28,18 +28,16 @@ returns c =
     let h = sent start in
     reads-clear-many (now (start .args .bytes)) (sym (h .version) ∙ start .pre .1) (sym (h .kind) ∙ start .pre .2) (read .next-int .result .number) (counted read .number) (c .if1 .taken)
 
-mul-if2 : tie.Need-mul-if2
-mul-if2 c = search needs
-
-add-if2 : tie.Need-add-if2
-add-if2 c = search needs
+clear-length-requires : tie.Need-clear-length-requires
+clear-length-requires c κs = search needs
 
 returns-2 : tie.Need-returns-2
 returns-2 c =
-    let read = c .before .before .before in
+    let sized = c .before in
+    let read = sized .before .before .before in
     let start = read .before .before in
     let h = sent start in
-    reads-clear-inexact (now (start .args .bytes)) (sym (h .version) ∙ start .pre .1) (sym (h .kind) ∙ start .pre .2) (read .next-int .result .number) (counted read .number) (c .if2 .taken)
+    reads-clear-inexact (now (start .args .bytes)) (sym (h .version) ∙ start .pre .1) (sym (h .kind) ∙ start .pre .2) (read .next-int .result .number) (counted read .number) (λ e. c .if2 .taken (e ∙ sym (sized .clear-length .ensures)))
 
 header-in-range-requires : tie.Need-header-in-range-requires
 header-in-range-requires c κs = search needs
@@ -47,20 +45,22 @@ header-in-range-requires c κs = search needs
 are-entries-in-range-requires : tie.Need-are-entries-in-range-requires
 are-entries-in-range-requires c κs =
     let else2 = c .before in
-    let read = else2 .before .before .before in
-    omega (arith, counted read .behind, else2 .if2 .left)
+    let sized = else2 .before in
+    let read = sized .before .before .before in
+    omega (arith, counted read .behind, sized .clear-length .ensures, else2 .if2 .left)
 
 returns-3 : tie.Need-returns-3
 returns-3 c =
     let header = c .before in
     let else2 = header .before in
-    let else1 = else2 .before in
+    let sized = else2 .before in
+    let else1 = sized .before in
     let read = else1 .before .before in
     let start = read .before .before in
     let h = sent start in
     let n = counted read in
-    rw (header .header-in-range .ensures, c .are-entries-in-range .ensures, n .behind, h .sender, h .sequence, h .counter)
-    (sym (reads-clear-exact (now (start .args .bytes)) (sym (h .version) ∙ start .pre .1) (sym (h .kind) ∙ start .pre .2) (read .next-int .result .number) (n .number) (else1 .if1 .left) (else2 .if2 .left)))
+    rw (header .header-in-range .ensures, c .are-entries-in-range .ensures, n .behind, start .pre .0)
+    (sym (reads-clear-exact (now (start .args .bytes)) (sym (h .version) ∙ start .pre .1) (sym (h .kind) ∙ start .pre .2) (read .next-int .result .number) (n .number) (else1 .if1 .left) (else2 .if2 .left ∙ sized .clear-length .ensures)))
 
 pub does-clear-read-spec : {M : Type 1} → statement M
 does-clear-read-spec =
@@ -69,8 +69,7 @@ does-clear-read-spec =
     next-int-requires
     cast-len
     returns
-    mul-if2
-    add-if2
+    clear-length-requires
     returns-2
     header-in-range-requires
     are-entries-in-range-requires

@@ -3,8 +3,9 @@ use borrow.Author.Needs.{needs}
 use mathlib.Core.Path.{sym, _∙_}
 use native.Mathlib.Omega.{arith}
 use denote.Ref.{now}
+use Rattle.wire.specs.Bounds.{increment-range}
 use Rattle.wire.specs.MessageLaws.{reads-increment-exact, reads-increment-inexact}
-use Rattle.wire.specs.MessagePartsLaws.{header-read, increment-read}
+use Rattle.wire.specs.MessagePartsLaws.{header-read}
 use Rattle.wire.proofs.decode.does_increment_read.Statement.{statement}
 use Rattle.wire.proofs.decode.does_increment_read.Tie as tie
 
@@ -35,9 +36,8 @@ returns-2 c =
     let start = else1 .before .before in
     let s = now (start .args .bytes) in
     let h = header-read s (start .args .header) (start .pre .0) in
-    let b = increment-read s (start .args .header) (start .pre .0) (read .increment-from .result) (read .increment-from .ensures) in
-    rw (header .header-in-range .ensures, c .body-in-range .ensures, h .sender, h .sequence, h .counter, b .p, b .start)
-    (sym (reads-increment-exact s (sym (h .version) ∙ start .pre .1) (sym (h .kind) ∙ start .pre .2) (else1 .if1 .left)))
+    rw (header .header-in-range .ensures, c .body-in-range .ensures, read .increment-from .ensures, start .pre .0)
+    (sym (reads-increment-exact s (sym (h .version) ∙ start .pre .1) (sym (h .kind) ∙ start .pre .2) (else1 .if1 .left) ∙ increment-range _ _ _ _ _))
 
 pub does-increment-read-spec : {M : Type 1} → statement M
 does-increment-read-spec =

@@ -3,8 +3,8 @@ use mathlib.Core.Path.{_≡_, sym, _∙_}
 use native.Mathlib.Omega.{arith}
 use denote.Ref.{now}
 use Rattle.wire.specs.Number.{int-at}
-use Rattle.wire.specs.Message.{clear-kind, increment-message}
-use Rattle.wire.specs.MessagePartsLaws.{HeaderRead, header-read, increment-read}
+use Rattle.wire.specs.Message.{clear-kind, kind-at, increment-message}
+use Rattle.wire.specs.MessagePartsLaws.{HeaderRead, header-read}
 use Rattle.wire.specs.RoundTrips.{read-exact, read-increment}
 use Rattle.wire.proofs.decode.increment_message.Statement.{statement}
 use Rattle.wire.proofs.decode.increment_message.Tie as tie
@@ -12,7 +12,7 @@ use Rattle.wire.proofs.decode.increment_message.Tie as tie
 sent : (c : tie.Start) → HeaderRead (now (c .args .bytes)) (c .args .header)
 sent c = header-read (now (c .args .bytes)) (c .args .header) (c .pre .1)
 
-no-clear : (c : tie.Start) → int-at (now (c .args .bytes)) 4 ≡ clear-kind → ⊥
+no-clear : (c : tie.Start) → int-at (now (c .args .bytes)) kind-at ≡ clear-kind → ⊥
 no-clear c e = c .pre .2 (sent c .kind ∙ e)
 
 increment-from-requires : tie.Need-increment-from-requires
@@ -22,10 +22,7 @@ returns : tie.Need-returns
 unfolding increment-message
 returns c =
     let start = c .before .before in
-    let s = now (start .args .bytes) in
-    let h = sent start in
-    let b = increment-read s (start .args .header) (start .pre .1) (c .increment-from .result) (c .increment-from .ensures) in
-    rw (h .sender, h .sequence, h .counter, b .p, b .start) (sym (read-increment s (no-clear start)))
+    rw (c .increment-from .ensures, start .pre .1) (sym (read-increment (now (start .args .bytes)) (no-clear start)))
 
 pub increment-message-spec : {M : Type 1} → statement M
 increment-message-spec = tie.close (tie.spec increment-from-requires returns)

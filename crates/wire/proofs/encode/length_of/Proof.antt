@@ -1,20 +1,18 @@
 -- By the kind, as the definition goes.
 use borrow.Author.Needs.{needs}
 use borrow.Author.Tests.{eq-eqb, ne-eqb}
+use Rattle.wire.specs.Message.{clear-kind}
 use Rattle.wire.proofs.encode.length_of.Statement.{statement}
 use Rattle.wire.proofs.encode.length_of.Tie as tie
 
-mul-result : tie.Need-mul-result
-mul-result c = search needs
-
-add-result : tie.Need-add-result
-add-result c = search needs
+clear-length-requires : tie.Need-clear-length-requires
+clear-length-requires c κs = search needs
 
 returns : tie.Need-returns
-returns c = rw (eq-eqb _ 2 (c .if1 .taken))
+returns c = rw (c .clear-length .ensures, eq-eqb _ clear-kind (c .before .if1 .taken))
 
 returns-2 : tie.Need-returns-2
-returns-2 c = rw (ne-eqb _ 2 (c .if1 .left))
+returns-2 c = rw (ne-eqb _ clear-kind (c .if1 .left))
 
 pub length-of-spec : {M : Type 1} → statement M
-length-of-spec = tie.close (tie.spec mul-result add-result returns returns-2)
+length-of-spec = tie.close (tie.spec clear-length-requires returns returns-2)

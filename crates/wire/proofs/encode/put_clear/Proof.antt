@@ -6,7 +6,7 @@ use native.Mathlib.Omega.{arith}
 use lib.ListN.{length}
 use lib.Seq.{sets}
 use denote.Ref.{now}
-use Rattle.wire.specs.Message.{entries-bytes}
+use Rattle.wire.specs.Message.{first-entry-at, entries-bytes}
 use Rattle.wire.specs.EntriesLaws.{entries-written}
 use Rattle.wire.specs.WriteLaws.{clear-stored}
 use Rattle.wire.proofs.encode.put_clear.Statement.{statement}
@@ -14,7 +14,7 @@ use Rattle.wire.proofs.encode.put_clear.Tie as tie
 
 abbrev Inv-loop : tie.InvT-loop
 Inv-loop out₀ m len i₀ out i =
-    (i ≤ len) × (length out ≡ length out₀) × (out ≡ sets out₀ 28 (entries-bytes i (m .entries)))
+    (i ≤ len) × (length out ≡ length out₀) × (out ≡ sets out₀ first-entry-at (entries-bytes i (m .entries)))
 
 abbrev μ-loop : tie.MeasureT-loop
 μ-loop out₀ m len i₀ out i = len - i
@@ -85,7 +85,7 @@ loop-again c =
     let at = first .before .before .before .loop in
     let word = first .before .before .before .before .before .before in
     let entry = word .before .before .before .before .before .before .before in
-    let turn = entries-written (word .write-u32 .last .0) 28 (entry .args .t1 .entries) (at .i) in
+    let turn = entries-written (word .write-u32 .last .0) first-entry-at (entry .args .t1 .entries) (at .i) in
     (search needs, search needs, rw (third .write-u642 .ensures, second .write-u64 .ensures, first .write-u322 .ensures, at .inv .2) turn)
 
 same-length : tie.Need-same-length Inv-loop μ-loop

@@ -1,7 +1,7 @@
 -- Five stores side by side are one.
 use borrow.Author.Needs.{needs}
 use lib.ListN.{length-append}
-use Rattle.wire.specs.StoredLists.{sets-append}
+use Rattle.protocol.specs.StoredLists.{sets-append}
 use Rattle.wire.specs.NumberLaws.{length-bytes-of}
 use Rattle.wire.proofs.encode.put_header.Statement.{statement}
 use Rattle.wire.proofs.encode.put_header.Tie as tie

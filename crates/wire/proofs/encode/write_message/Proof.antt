@@ -7,25 +7,22 @@ use mathlib.Core.Path.{_≡_, sym, _∙_}
 use mathlib.Core.Bool.{true, false, _&&_}
 use native.Mathlib.Nat.{sub-zero}
 use native.Mathlib.Omega.{arith}
-use lib.ListN.{length, drop, length-map}
+use lib.ListN.{drop}
 use denote.Ref.{now}
-use Rattle.wire.specs.Message.{in-range}
-use Rattle.wire.specs.Ranges.{entries-fit}
-use Rattle.wire.specs.EntriesLaws.{places-passed, places-failed, places-done}
+use Rattle.protocol.specs.Limits.{most-cards}
+use Rattle.wire.specs.Message.{clear-kind, in-range}
+use Rattle.wire.specs.EntriesLaws.{places-in-range, places-passed, places-failed, places-done}
 use Rattle.wire.specs.Bounds.{in-range-split, len-few}
 use Rattle.wire.specs.WriteLaws.{write-unfit, write-short, write-done, increment-bytes-from}
+use Rattle.wire.proofs.MessageArray.{array-full}
 use Rattle.wire.proofs.encode.write_message.Statement.{statement}
 use Rattle.wire.proofs.encode.write_message.Tie as tie
 
 abbrev Inv-loop : tie.InvT-loop
-Inv-loop out m len header low₀ i₀ low i = (i ≤ 16) × (entries-fit low (len - i) (drop i (m .entries)) ≡ in-range m)
+Inv-loop out m len header low₀ i₀ low i = (i ≤ most-cards) × (places-in-range low (len - i) (drop i (m .entries)) ≡ in-range m)
 
 abbrev μ-loop : tie.MeasureT-loop
-μ-loop out m len header low₀ i₀ low i = 16 - i
-
--- the struct's array has its sixteen places: it is the ninth field of what owning the parameter tells
-sixteen : (c : tie.Start Inv-loop μ-loop) → length (c .args .t1 .entries) ≡ 16
-sixteen c = sym (length-map (c .args .t1 .entries) _) ∙ c .good .0 .1 .1 .1 .1 .1 .1 .1 .1 .1 .1 .0 .1 .0 .1
+μ-loop out m len header low₀ i₀ low i = most-cards - i
 
 -- past the loop the message is in range
 fits : (c : tie.After-loop Inv-loop μ-loop) → in-range (c .before .before .before .before .before .before .args .t1) ≡ true
@@ -33,7 +30,7 @@ fits c =
     let at = c .before in
     let start = at .before .before .before .before .before in
     let m = start .args .t1 in
-    let full = sixteen start in
+    let full = array-full m (start .good .0) in
     sym (at .loop .inv .1) ∙ places-done (at .loop .low) (m .len - at .loop .i) (at .loop .i) (m .entries) (omega arith)
 
 header-in-range-requires : tie.Need-header-in-range-requires Inv-loop μ-loop
@@ -78,7 +75,7 @@ returns-2 c =
     let at = tested .before .before .before in
     let start = at .before .before .before .before .before in
     let m = start .args .t1 in
-    let full = sixteen start in
+    let full = array-full m (start .good .0) in
     let fails = places-failed _ (at .loop .low) (at .loop .i) (m .len) (m .entries) (omega arith) (at .loop .inv .1) (sym (tested .place-in-range .ensures) ∙ not-true _ (c .before .if2 .taken)) in
     rw (c .decline2 .ensures) (write-unfit m (now (start .args .out)) (sym fails))
 
@@ -98,7 +95,7 @@ loop-again c =
     let at = tested .before .before .before in
     let start = at .before .before .before .before .before in
     let m = start .args .t1 in
-    let full = sixteen start in (
+    let full = array-full m (start .good .0) in (
       search needs,
       places-passed _ (at .loop .low) (at .loop .i) (m .len) (m .entries) (omega arith) (at .loop .inv .1) (c .next-card .result) (sym (tested .place-in-range .ensures) ∙ not-false _ (else2 .if2 .left)) (c .next-card .ensures),
     )
@@ -122,7 +119,7 @@ put-clear-requires c κs =
     let sized = else3 .before in
     let m = sized .before .before .before .before .before .before .before .args .t1 in
     let kind = then4 .if4 .taken in
-    let long = rw (eq-eqb (m .kind) 2 kind) at (sized .length-of .ensures) in
+    let long = rw (eq-eqb (m .kind) clear-kind kind) at (sized .length-of .ensures) in
     (kind, len-few m (fits (sized .before)), omega (arith, long, else3 .if3 .left))
 
 same-length : tie.Need-same-length Inv-loop μ-loop
@@ -142,7 +139,7 @@ put-increment-requires c κs =
     let else3 = else4 .before in
     let sized = else3 .before in
     let m = sized .before .before .before .before .before .before .before .args .t1 in
-    let long = rw (ne-eqb (m .kind) 2 (else4 .if4 .left)) at (sized .length-of .ensures) in
+    let long = rw (ne-eqb (m .kind) clear-kind (else4 .if4 .left)) at (sized .length-of .ensures) in
     omega (arith, long, else3 .if3 .left)
 
 same-length-2 : tie.Need-same-length-2 Inv-loop μ-loop

@@ -1,6 +1,7 @@
 -- By the kind; each side then is the definition.
 use borrow.Author.Needs.{needs}
 use borrow.Author.Tests.{eq-eqb, ne-eqb}
+use Rattle.wire.specs.Message.{increment-kind, increment-in-range, clear-in-range}
 use Rattle.wire.proofs.range.body_in_range.Statement.{statement}
 use Rattle.wire.proofs.range.body_in_range.Tie as tie
 
@@ -8,10 +9,12 @@ from-one-requires : tie.Need-from-one-requires
 from-one-requires c κs = search needs
 
 returns : tie.Need-returns
-returns c = rw (eq-eqb _ 1 (c .before .if1 .taken), c .from-one .ensures)
+unfolding increment-in-range
+returns c = rw (eq-eqb _ increment-kind (c .before .if1 .taken), c .from-one .ensures)
 
 returns-2 : tie.Need-returns-2
-returns-2 c = rw (ne-eqb _ 1 (c .if1 .left))
+unfolding clear-in-range
+returns-2 c = rw (ne-eqb _ increment-kind (c .if1 .left))
 
 pub body-in-range-spec : {M : Type 1} → statement M
 body-in-range-spec = tie.close (tie.spec from-one-requires returns returns-2)

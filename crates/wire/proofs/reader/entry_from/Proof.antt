@@ -1,8 +1,6 @@
 -- Each number is read where the one before it ends.
 use borrow.Author.Needs.{needs}
-use mathlib.Core.Path.{_≡_}
-use Prim.Native.Nat.{_+_}
-use native.Mathlib.Omega.{arith}
+use native.Mathlib.Nat.{add-assoc}
 use Rattle.wire.proofs.reader.entry_from.Statement.{statement}
 use Rattle.wire.proofs.reader.entry_from.Tie as tie
 
@@ -20,10 +18,7 @@ returns c =
     let c-read = c .next2 .ensures in
     let p-read = c .before .next .ensures in
     let card-read = c .before .before .next-int .ensures in
-    let at = c .before .before .before .before .args .at in
-    let c-at : at + 4 + 8 ≡ at + 12 = omega arith in
-    let behind : at + 12 + 8 ≡ at + 20 = omega arith in
-    rw (c-read .0, c-read .1, p-read .0, p-read .1, card-read .0, card-read .1, c-at, behind)
+    rw (c-read .0, c-read .1, p-read .0, p-read .1, card-read .0, card-read .1) (simp add-assoc)
 
 pub entry-from-spec : {M : Type 1} → statement M
 entry-from-spec = tie.close (tie.spec next-int-requires next-requires next-requires-2 returns)

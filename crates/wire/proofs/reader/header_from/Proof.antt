@@ -1,8 +1,6 @@
 -- Each number is read where the one before it ends.
 use borrow.Author.Needs.{needs}
-use mathlib.Core.Path.{_≡_}
-use Prim.Native.Nat.{_+_}
-use native.Mathlib.Omega.{arith}
+use native.Mathlib.Nat.{add-assoc}
 use Rattle.wire.proofs.reader.header_from.Statement.{statement}
 use Rattle.wire.proofs.reader.header_from.Tie as tie
 
@@ -28,12 +26,7 @@ returns c =
     let sender = c .before .before .next-int3 .ensures in
     let kind = c .before .before .before .next-int2 .ensures in
     let version = c .before .before .before .before .next-int .ensures in
-    let at = c .before .before .before .before .before .before .args .at in
-    let sender-at : at + 4 + 4 ≡ at + 8 = omega arith in
-    let sequence-at : at + 8 + 4 ≡ at + 12 = omega arith in
-    let counter-at : at + 12 + 8 ≡ at + 20 = omega arith in
-    let behind : at + 20 + 4 ≡ at + 24 = omega arith in
-    rw (counter .0, counter .1, sequence .0, sequence .1, sender .0, sender .1, kind .0, kind .1, version .0, version .1, sender-at, sequence-at, counter-at, behind)
+    rw (counter .0, counter .1, sequence .0, sequence .1, sender .0, sender .1, kind .0, kind .1, version .0, version .1) (simp add-assoc)
 
 pub header-from-spec : {M : Type 1} → statement M
 header-from-spec =

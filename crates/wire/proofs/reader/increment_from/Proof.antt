@@ -1,8 +1,6 @@
 -- Each number is read where the one before it ends.
 use borrow.Author.Needs.{needs}
-use mathlib.Core.Path.{_≡_}
-use Prim.Native.Nat.{_+_}
-use native.Mathlib.Omega.{arith}
+use native.Mathlib.Nat.{add-assoc}
 use Rattle.wire.proofs.reader.increment_from.Statement.{statement}
 use Rattle.wire.proofs.reader.increment_from.Tie as tie
 
@@ -16,9 +14,7 @@ returns : tie.Need-returns
 returns c =
     let start = c .next-int .ensures in
     let p = c .before .next .ensures in
-    let at = c .before .before .before .args .at in
-    let behind : at + 8 + 4 ≡ at + 12 = omega arith in
-    rw (start .0, start .1, p .0, p .1, behind)
+    rw (start .0, start .1, p .0, p .1) (simp add-assoc)
 
 pub increment-from-spec : {M : Type 1} → statement M
 increment-from-spec = tie.close (tie.spec next-requires next-int-requires returns)

@@ -5,8 +5,8 @@ use lib.ListN.{length}
 use denote.Ref.{now}
 use borrow.Author.Needs.{needs}
 use borrow.Author.Tests.{not-true, not-false}
-use Rattle.chassis.specs.Begin.{lengths-right, right-lengths}
-use Rattle.yelansub.specs.Records.{began-wrong, began-right}
+use Rattle.chassis.specs.BeginLaws.{lengths-right, right-lengths}
+use Rattle.yelansub.specs.RecordsLaws.{began-wrong, began-right}
 use Rattle.yelansub.proofs.records.begin_records.Statement.{statement}
 use Rattle.yelansub.proofs.records.begin_records.Tie as tie
 

@@ -1,5 +1,5 @@
--- `yelansub_run_records` meets its contract: a walk of its MIR, by hand, since a `&[Step]` is a reference to structs. The words are lent to `begin_records`; where the sizes are wrong the run returns. Each turn of the loop copies a
--- record out of the slice, lends the words, the logs, the answers and the places, for a lifetime that is made for the call, and calls `turn_record`. All that the proof knows of the two is that each meets its contract.
+-- `yelansub_run_records` meets its contract: a proof by hand along its MIR, since a `&[Step]` is a reference to structs. The words are lent to `begin_records`; where the sizes are wrong the run returns. Each turn of the loop copies a
+-- record out of the slice, lends the words, the logs, the answers and the places, for a lifetime that is made for the call, and calls `answer_record`. All that the proof knows of the two is that each meets its contract.
 --     State, At    the loop's variant and invariant: the number, the words, the logs, the answers and the places, with `StepReady` and `Running` of them; and the context that a turn starts from
 --     more, ends   a turn that takes a record, and the turn that leaves the loop, with the rest of the body
 --
@@ -53,22 +53,24 @@ use denote.Triple.Spec.{Meets, tripleOf}
 use denote.Triple.Table.{entered, cited}
 use denote.Triple.Walked.{says, Stays, stay-none, stay-none-slice, stay-slice, walkOf, goes-none, goes-none-slice, goes-slice, Walks, ends-at, walked, walk-meets}
 use denote.Exit.{yes}
-use Rattle.walks.proofs.Called.{calls-fn, calls-fn-last}
-use Rattle.walks.proofs.Again.{LentAgain, lends-again, comes-back}
+use Rattle.hand_proofs.proofs.Called.{calls-fn, calls-fn-last}
+use Rattle.hand_proofs.proofs.Again.{LentAgain, lends-again, comes-back}
 use Rattle.chassis_model.specs.declared.Step.{Step}
-use Rattle.chassis.specs.Turns.{state-of, StepReady, StepAnswered}
-use Rattle.chassis.specs.Running.{Running, running-begins}
-use Rattle.yelansub.specs.Records.{Began, sizes-for, Gives, declined, finished, begun-answers, begun-given, record-turn}
+use Rattle.chassis_model.specs.Run.{answer-length}
+use Rattle.chassis_model.specs.Places.{links}
+use Rattle.chassis.specs.StepCodeLaws.{state-of, StepReady, StepAnswered}
+use Rattle.chassis.specs.RunningLaws.{Running, running-begins}
+use Rattle.yelansub.specs.RecordsLaws.{Began, sizes-for, Gives, declined, finished, begun-answers, begun-given, record-next}
 use Rattle.chassis_model.proofs.Step as T
 use Rattle.chassis_model.proofs.Step.Laws as T′
 use Rattle.yelansub.proofs.records.begin_records as begin
 use Rattle.yelansub.proofs.records.begin_records.Symbol as begin-def
 use Rattle.yelansub.proofs.records.begin_records.Symbol.{name as #begin-records}
 use Rattle.yelansub.proofs.records.begin_records.Met as begin-thm
-use Rattle.yelansub.proofs.records.turn_record as turn
-use Rattle.yelansub.proofs.records.turn_record.Symbol as turn-def
-use Rattle.yelansub.proofs.records.turn_record.Symbol.{name as #turn-record}
-use Rattle.yelansub.proofs.records.turn_record.Met as turn-thm
+use Rattle.yelansub.proofs.records.answer_record as answer
+use Rattle.yelansub.proofs.records.answer_record.Symbol as answer-def
+use Rattle.yelansub.proofs.records.answer_record.Symbol.{name as #answer-record}
+use Rattle.yelansub.proofs.records.answer_record.Met as answer-thm
 use Rattle.yelansub.proofs.records.yelansub_run_records.Key.{name as #run-records}
 use Rattle.yelansub.proofs.records.yelansub_run_records as f
 use Rattle.yelansub.proofs.records.yelansub_run_records.Statement as stated
@@ -92,8 +94,8 @@ module _ {M : Type 1} (𝓤 : URA M) (H : Heap 𝓤) (A : Atoms 𝓤) (mem : Mem
   abbrev Begin : Contract 𝓤
   Begin = tripleOf 𝓤 H A begin.signature (begin.spec 𝓤 H A mem run)
 
-  abbrev Turn : Contract 𝓤
-  Turn = tripleOf 𝓤 H A turn.signature (turn.spec 𝓤 H A mem run)
+  abbrev Answer : Contract 𝓤
+  Answer = tripleOf 𝓤 H A answer.signature (answer.spec 𝓤 H A mem run)
 
 -- the types of the locals
 abbrev word : Ty
@@ -112,7 +114,7 @@ abbrev ref : Ty
 ref = tyRef erased mut word
 
 abbrev places-ty : Ty
-places-ty = tyArray word 256
+places-ty = tyArray word links
 
 abbrev places-ref : Ty
 places-ref = tyRef erased mut places-ty
@@ -120,7 +122,7 @@ places-ref = tyRef erased mut places-ty
 abbrev byte-ref : Ty
 byte-ref = tyRef erased mut (tyInt w8)
 
--- a test of the code, as the walk has it
+-- a test of the code, as the branch has it
 not-not : (y : Bool) → Holds (not (not y)) → y ≡ true
 not-not true h = refl
 not-not false h = absurd h
@@ -129,19 +131,22 @@ not-is : (y : Bool) → Holds (not y) → y ≡ false
 not-is true h = absurd h
 not-is false h = refl
 
--- a record's machine values
+-- a record's bytes in memory, and its machine values
+abbrev record-size : ℕ
+record-size = 12
+
 abbrev vals : Step → List Val
 vals = LL.vals T.the-type T′.the-laws
 
 -- the places of the links, a local array: as a type, and in memory at block b
 abbrev Places : RattleType
-Places = Array u64 256
+Places = Array u64 links
 
 abbrev InPlaces : List ℕ → ℕ → Fml
 InPlaces ps b = partAt Places fullShare ps b 0
 
 abbrev zeros : List ℕ
-zeros = replicate {A = ℕ} 256 0
+zeros = replicate {A = ℕ} links 0
 
 -- what a run starts from: the records; the words, the logs and the answers at entry; and the words that `begin_records` left
 module _ (r k l : ℕ) (steps : List Step) (words₀ logs₀ answers₀ begun₁ : List ℕ) where
@@ -164,7 +169,7 @@ module _ (r k l : ℕ) (steps : List Step) (words₀ logs₀ answers₀ begun₁
   Nearer-wf : WellFounded Nearer
   Nearer-wf = InvImage·wf (λ (t : State). length steps - t .i) (Nat·lt-wfRel .wf)
 
-  abbrev starts : length begun₁ ≡ length words₀ → length answers₀ ≡ length steps → StepReady (sizes-for r k l) begun₁ logs₀ zeros → State
+  abbrev starts : length begun₁ ≡ length words₀ → length answers₀ ≡ length steps * answer-length → StepReady (sizes-for r k l) begun₁ logs₀ zeros → State
   starts as-many same given = record {
     i = 0;
     words = begun₁;
@@ -182,18 +187,18 @@ module _ (r k l : ℕ) (steps : List Step) (words₀ logs₀ answers₀ begun₁
   -- record i of the state t is taken
   abbrev next : (t : State) (d : Step) (j : ℕ) (ws gs zs ps : List ℕ) → t .i < length steps → length ws ≡ length (t .words) → length gs ≡ length (t .logs) → length zs ≡ length (t .answers)
       → StepAnswered (sizes-for r k l) (getD steps (t .i) d) (t .i) (t .words) (t .logs) (t .answers) ws gs zs ps j → State
-  next t d j ws gs zs ps small lw lg lz turned = record {
+  next t d j ws gs zs ps small lw lg lz did = record {
     i = j;
     words = ws;
     logs = gs;
     answers = zs;
     places = ps;
-    most = omega (arith, turned .next, small);
+    most = omega (arith, did .next, small);
     as-many-words = lw ∙ t .as-many-words;
     as-many-logs = lg ∙ t .as-many-logs;
     as-many-answers = lz ∙ t .as-many-answers;
-    given = turned .given;
-    running = record-turn r k l steps (state-of begun₁ logs₀) (t .i) j d (t .words) (t .logs) (t .answers) ws gs zs ps small turned (t .running);
+    given = did .given;
+    running = record-next r k l steps (state-of begun₁ logs₀) (t .i) j d (t .words) (t .logs) (t .answers) ws gs zs ps small did (t .running);
   }
 
 module _ {M : Type 1} (𝓤 : URA M) (H : Heap 𝓤) (A : Atoms 𝓤) (W : Laws 𝓤 H A) (mem : Memory → SProp 𝓤) (run : Routine → Fun 𝓤) (κ₀ κ₁ κ₂ κ₃ : Lft) (q₀ q₁ q₂ q₃ : Share) (r k l : ℕ) (r-fits : r < 2 ^ 64) (k-fits : k < 2 ^ 64) (l-fits : l < 2 ^ 64)
@@ -282,13 +287,13 @@ module _ {M : Type 1} (𝓤 : URA M) (H : Heap 𝓤) (A : Atoms 𝓤) (W : Laws 
       owned ! u64 (Is u64) (uint-makes 𝓤 H A W w64) l _ (refl, l-fits) $ fjoin ! $ owned ! u64 (Is u64) (uint-makes 𝓤 H A W w64) k _ (refl, k-fits) $ fjoin ! $ owned ! u64 (Is u64) (uint-makes 𝓤 H A W w64) r _ (refl, r-fits) $ fjoin ! $
       move ! (1 ∷ 0 ∷ []) $ join ! $ frame ! $ done !
 
-  -- the call of `turn_record` at the state t, on the record s, with the places in block b₄
+  -- the call of `answer_record` at the state t, on the record s, with the places in block b₄
   module _ {begun₁ : List ℕ} (t : State r k l steps words₀ logs₀ answers₀ begun₁) (s : Step) (b₄ : ℕ) where
     abbrev x₄ : GName → RefT (List ℕ)
     x₄ δ = record { ptr = (b₄, 0); name = δ; now = t .places }
 
-    abbrev to-turn : ℕ → GName → GName → GName → GName → Turn 𝓤 H A mem run .Ghost
-    to-turn ν δ₁ δ₂ δ₃ δ₄ = (
+    abbrev to-answer : ℕ → GName → GName → GName → GName → Answer 𝓤 H A mem run .Ghost
+    to-answer ν δ₁ δ₂ δ₃ δ₄ = (
       (
         (ν ∷ [], tt),
         (fullShare, tt),
@@ -304,9 +309,9 @@ module _ {M : Type 1} (𝓤 : URA M) (H : Heap 𝓤) (A : Atoms 𝓤) (W : Laws 
         ‵ (flft (ν ∷ []) fullShare) ∷ ‵ (MutSlice (named 0) (ν ∷ []) u64 .own (x₁ δ₁ (t .words)) (v₁ ∷ []))
         ∷ (‵ (MutSlice (named 0) (ν ∷ []) u8 .own (x₂ δ₂ (t .logs)) (v₂ ∷ [])) ⊛ (‵ (MutSlice (named 0) (ν ∷ []) u64 .own (x₃ δ₃ (t .answers)) (v₃ ∷ [])) ⊛ ‵ (MutRef (named 0) (ν ∷ []) Places .own (x₄ δ₄) (vptr b₄ 0 ∷ [])))) ∷ []
 
-    goes-turn : (ν : ℕ) (δ₁ δ₂ δ₃ δ₄ : GName) → Is T.the-row s (vals s) → t .i < length steps → length answers₀ ≡ length steps
-        → ent 𝓤 (⋆ 𝓤 H A (Lent ν δ₁ δ₂ δ₃ δ₄)) (Turn 𝓤 H A mem run .pre (to-turn ν δ₁ δ₂ δ₃ δ₄))
-    goes-turn ν δ₁ δ₂ δ₃ δ₄ g small same =
+    goes-answer : (ν : ℕ) (δ₁ δ₂ δ₃ δ₄ : GName) → Is T.the-row s (vals s) → t .i < length steps → length answers₀ ≡ length steps * answer-length
+        → ent 𝓤 (⋆ 𝓤 H A (Lent ν δ₁ δ₂ δ₃ δ₄)) (Answer 𝓤 H A mem run .pre (to-answer ν δ₁ δ₂ δ₃ δ₄))
+    goes-answer ν δ₁ δ₂ δ₃ δ₄ g small same =
         qed W (Lent ν δ₁ δ₂ δ₃ δ₄) ∵ says ! (t .given, omega (arith, small, same, t .as-many-answers)) $ nothing ! $ move ! (1 ∷ 0 ∷ []) $ join ! $ frame ! $
         -- [the words; the logs, the answers and the places]
         move ! (1 ∷ []) $ split ! $ move ! (1 ∷ []) $ split ! $
@@ -315,7 +320,7 @@ module _ {M : Type 1} (𝓤 : URA M) (H : Heap 𝓤) (A : Atoms 𝓤) (W : Laws 
         owned ! usize (Is usize) (uint-makes 𝓤 H A W w64) (t .i) _ (refl, omega (arith, small, room₀ .0)) $ fjoin ! $ owned ! T.the-row (Is T.the-row) (LL.makes T.the-type T′.the-plain 𝓤 H A) s _ g $ fjoin ! $
         owned ! u64 (Is u64) (uint-makes 𝓤 H A W w64) l _ (refl, l-fits) $ fjoin ! $ owned ! u64 (Is u64) (uint-makes 𝓤 H A W w64) k _ (refl, k-fits) $ fjoin ! $ owned ! u64 (Is u64) (uint-makes 𝓤 H A W w64) r _ (refl, r-fits) $ fjoin ! $ done !
 
-  module _ (𝓣 : Tables 𝓤 H) (known-begin : Triple 𝓤 (𝓣 .C #begin-records) (Begin 𝓤 H A mem run)) (known-turn : Triple 𝓤 (𝓣 .C #turn-record) (Turn 𝓤 H A mem run))
+  module _ (𝓣 : Tables 𝓤 H) (known-begin : Triple 𝓤 (𝓣 .C #begin-records) (Begin 𝓤 H A mem run)) (known-answer : Triple 𝓤 (𝓣 .C #answer-record) (Answer 𝓤 H A mem run))
       (l₀ l₁ l₂ l₃ l₄ l₅ l₆ l₇ l₈ l₉ l₁₀ l₁₁ l₁₂ l₁₃ l₁₄ l₁₅ l₁₆ l₁₇ l₁₈ l₁₉ l₂₀ l₂₁ l₂₂ l₂₃ l₂₄ l₂₅ l₂₆ l₂₇ : ℕ) where
     abbrev C : Calls 𝓤 H
     C = 𝓣 .C
@@ -346,7 +351,7 @@ module _ {M : Type 1} (𝓤 : URA M) (H : Heap 𝓤) (A : Atoms 𝓤) (W : Laws 
         free1 ! $ free0 ! $ k
 
     -- the loop: what a turn starts from. What is owned stands at 54 to 62, the places and what frees them at 63 and 64
-    module _ (begun₁ : List ℕ) (same : length answers₀ ≡ length steps) where
+    module _ (begun₁ : List ℕ) (same : length answers₀ ≡ length steps * answer-length) where
       abbrev St : Type 0
       St = State r k l steps words₀ logs₀ answers₀ begun₁
 
@@ -384,7 +389,7 @@ module _ {M : Type 1} (𝓤 : URA M) (H : Heap 𝓤) (A : Atoms 𝓤) (W : Laws 
           -- the place of `steps[i]`, which is copied out of the slice
           assigns ! (bin ! (load ! (from ! (stop !)) (look ! 34 refl)) (lit ! tt) (record { fits = place-fits })) (from ! (stop !)) (store ! 20 refl (tt, record { fits = place-fits })) $
           assigns ! (bin ! (load ! (from ! (fld ! refl (stop !))) (look-in ! 44 (sub ! 0 refl (whole !)))) (load ! (from ! (stop !)) (look ! 20 refl)) tt) (from ! (stop !)) (init ! 16 refl (tt, tt)) $
-          rewrite ! 16 (λ (p : ℕ). ‵ (fat fullShare tyPtr l₁₉ 0 (vptr b₀ p))) (sym (place-is 12 o₀ (t .i))) refl $
+          rewrite ! 16 (λ (p : ℕ). ‵ (fat fullShare tyPtr l₁₉ 0 (vptr b₀ p))) (sym (place-is record-size o₀ (t .i))) refl $
           move ! (58 ∷ 54 ∷ []) $ looks-slice ! tt T.the-row (Is T.the-row) (shows 𝓤 H A T.the-row) vals (LL.tells T.the-type T′.the-laws) (LL.copy T.the-type T′.the-copy 𝓤 H A W) steps b₀ o₀ (λ q′.
           elem-out ! T.the-row (Is T.the-row) (shows 𝓤 H A T.the-row) vals (LL.tells T.the-type T′.the-laws) q′ steps (t .i) d b₀ o₀ small (λ g.
           -- [steps[i]; what it owns; the others; what shuts; the fractured borrow; _27; …]
@@ -408,9 +413,9 @@ module _ {M : Type 1} (𝓤 : URA M) (H : Heap 𝓤) (A : Atoms 𝓤) (W : Laws 
           move ! (64 ∷ []) $
           use1 W (later (some (λ (δ : GName). ‵ (MutRef (named 0) (ν ∷ []) Places .own (x₄ t s l₉ δ) (vptr l₉ 0 ∷ [])) ⊛ ‵ (flent (ν ∷ []) (Body (stored Places) l₉ 0 δ))))) (lends-ref 𝓤 H A W Places (named 0) (ν ∷ []) (t .places) l₉ 0) $ await ! tt $ pick ! (λ δ₄. split ! $
           -- [the places, lent; what is kept of them; the answers, lent; what is kept; the logs; ..; the words; ..; ν; κ₀; the fractured borrow; _27; …]
-          move ! (2 ∷ 0 ∷ []) $ join ! $ move ! (3 ∷ 0 ∷ []) $ join ! $ move ! (6 ∷ 4 ∷ 0 ∷ []) $ use3 W (raw (Turn 𝓤 H A mem run .pre (to-turn t s l₉ ν δ₁ δ₂ δ₃ δ₄))) (goes-turn t s l₉ ν δ₁ δ₂ δ₃ δ₄ g small same) $
-          calls-fn-last ! fm turn.ended (turn.clauses 𝓤 H A mem run) known-turn (to-turn t s l₉ ν δ₁ δ₂ δ₃ δ₄) (λ j z. StepAnswered (sizes-for r k l) s (t .i) (t .words) (t .logs) (t .answers) (z .1 .1 .1 .1 .1 .0) (z .1 .1 .1 .1 .1 .1 .0) (z .1 .1 .1 .1 .1 .1 .1 .0) (z .1 .1 .1 .1 .1 .1 .1 .1 .0) j) (λ j z. id⊢ 𝓤 _)
-          (and-then ! (load ! (from ! (stop !)) (look ! 57 refl)) (and-then ! (load ! (from ! (stop !)) (look ! 55 refl)) (and-then ! (load ! (from ! (stop !)) (look ! 53 refl)) (and-then ! (load ! (from ! (stop !)) (look ! 21 refl)) (and-then ! (load ! (from ! (stop !)) (look ! 41 refl)) (and-then ! (load ! (from ! (stop !)) (look ! 17 refl)) (and-then ! (load ! (from ! (stop !)) (look ! 13 refl)) (and-then ! (load ! (from ! (stop !)) (look ! 9 refl)) (and-then ! (load ! (from ! (stop !)) (look ! 7 refl)) (no-more !)))))))))) (λ w j z turned is.
+          move ! (2 ∷ 0 ∷ []) $ join ! $ move ! (3 ∷ 0 ∷ []) $ join ! $ move ! (6 ∷ 4 ∷ 0 ∷ []) $ use3 W (raw (Answer 𝓤 H A mem run .pre (to-answer t s l₉ ν δ₁ δ₂ δ₃ δ₄))) (goes-answer t s l₉ ν δ₁ δ₂ δ₃ δ₄ g small same) $
+          calls-fn-last ! fm answer.ended (answer.clauses 𝓤 H A mem run) known-answer (to-answer t s l₉ ν δ₁ δ₂ δ₃ δ₄) (λ j z. StepAnswered (sizes-for r k l) s (t .i) (t .words) (t .logs) (t .answers) (z .1 .1 .1 .1 .1 .0) (z .1 .1 .1 .1 .1 .1 .0) (z .1 .1 .1 .1 .1 .1 .1 .0) (z .1 .1 .1 .1 .1 .1 .1 .1 .0) j) (λ j z. id⊢ 𝓤 _)
+          (and-then ! (load ! (from ! (stop !)) (look ! 57 refl)) (and-then ! (load ! (from ! (stop !)) (look ! 55 refl)) (and-then ! (load ! (from ! (stop !)) (look ! 53 refl)) (and-then ! (load ! (from ! (stop !)) (look ! 21 refl)) (and-then ! (load ! (from ! (stop !)) (look ! 41 refl)) (and-then ! (load ! (from ! (stop !)) (look ! 17 refl)) (and-then ! (load ! (from ! (stop !)) (look ! 13 refl)) (and-then ! (load ! (from ! (stop !)) (look ! 9 refl)) (and-then ! (load ! (from ! (stop !)) (look ! 7 refl)) (no-more !)))))))))) (λ w j z did is.
           -- [the result; the last lists; the token; what is kept of the places, the answers, the logs and the words; κ₀; the fractured borrow; _27; …]
           move ! (1 ∷ []) $ fsplit ! $ let-go ! $ fsplit ! $ let-go ! $ fsplit ! $ let-go ! $ fsplit ! $ let-go ! $ fsplit ! $ let-go ! $ fsplit ! $ fsplit ! $ move ! (1 ∷ []) $ feqL ! (λ lw. move ! (1 ∷ []) $ fsplit ! $ fsplit ! $ move ! (1 ∷ []) $ feqL ! (λ lg. move ! (1 ∷ []) $ fsplit ! $ fsplit ! $ move ! (1 ∷ []) $ feqL ! (λ lz. move ! (1 ∷ []) $ fsplit ! $
           -- [the places' last list; true; the answers'; the logs'; the words'; the result; the token; …]: the lifetime is ended, and all come back at those lists
@@ -429,7 +434,7 @@ module _ {M : Type 1} (𝓤 : URA M) (H : Heap 𝓤) (A : Atoms 𝓤) (W : Laws 
           land-last ! (from ! (stop !)) (store ! 46 refl (uint-lawful 𝓤 H A W w64 .typed j _ is .0)) $ rewrite ! 46 (λ (u : Val). ‵ (fat fullShare word l₁₀ 0 u)) (ap only (is .0)) refl $
           forget ! 12 refl $ forget ! 14 refl $ forget ! 16 refl $ forget ! 18 refl $ forget ! 20 refl $ forget ! 22 refl $ forget ! 24 refl $ forget ! 26 refl $ forget ! 28 refl $ forget ! 30 refl $ forget ! 32 refl $
           keep ! (12 ∷ 13 ∷ 14 ∷ 15 ∷ 16 ∷ 17 ∷ 18 ∷ 19 ∷ 20 ∷ 21 ∷ 22 ∷ 23 ∷ 24 ∷ 25 ∷ 26 ∷ 27 ∷ 28 ∷ 29 ∷ 30 ∷ 31 ∷ 32 ∷ 33 ∷ 34 ∷ 35 ∷ 36 ∷ 37 ∷ 38 ∷ 39 ∷ 40 ∷ 41 ∷ 42 ∷ 43 ∷ 44 ∷ 45 ∷ 46 ∷ 47 ∷ 48 ∷ 49 ∷ 50 ∷ 51 ∷ 52 ∷ 53 ∷ 54 ∷ 55 ∷ 56 ∷ 57 ∷ 58 ∷ 59 ∷ 60 ∷ 61 ∷ 62 ∷ 63 ∷ 64 ∷ 65 ∷ 10 ∷ 1 ∷ 3 ∷ 5 ∷ 11 ∷ 66 ∷ 0 ∷ 2 ∷ 4 ∷ 6 ∷ 67 ∷ []) $
-          again ! Near At t (next r k l steps words₀ logs₀ answers₀ begun₁ t d j (z .1 .1 .1 .1 .1 .0) (z .1 .1 .1 .1 .1 .1 .0) (z .1 .1 .1 .1 .1 .1 .1 .0) (z .1 .1 .1 .1 .1 .1 .1 .1 .0) small lw lg lz turned) (omega (arith, turned .next, small)))))))))))))
+          again ! Near At t (next r k l steps words₀ logs₀ answers₀ begun₁ t d j (z .1 .1 .1 .1 .1 .0) (z .1 .1 .1 .1 .1 .1 .0) (z .1 .1 .1 .1 .1 .1 .1 .0) (z .1 .1 .1 .1 .1 .1 .1 .1 .0) small lw lg lz did) (omega (arith, did .next, small)))))))))))))
         where
           d : Step
           d = record { kind = 0; first = 0; second = 0 }
@@ -440,7 +445,7 @@ module _ {M : Type 1} (𝓤 : URA M) (H : Heap 𝓤) (A : Atoms 𝓤) (W : Laws 
           small : t .i < length steps
           small = ltb-true (t .i) (length steps) less
 
-          place-fits : t .i * 12 < 2 ^ 64
+          place-fits : t .i * record-size < 2 ^ 64
           place-fits = omega (arith, small, room₀ .1)
 
       turns : ((t : St) → length steps ≤ t .i → Gives r k l steps words₀ logs₀ answers₀ 0 (t .words) (t .logs) (t .answers)) → (t : St) → Sq W (At t) (runs C Λ En parts.turn-1 (anyQ (Then t)))
@@ -450,7 +455,7 @@ module _ {M : Type 1} (𝓤 : URA M) (H : Heap 𝓤) (A : Atoms 𝓤) (W : Laws 
           by-test true less = more t less
           by-test false over = ends t (finishes t (ltb-false (t .i) (length steps) over)) over
 
-    -- what is had after `begin_records`, which returned n and left the words ws
+    -- what is had after `begin_records`, which redid n and left the words ws
     abbrev Begun : ℕ → List ℕ → List (Item 𝓤)
     Begun n ws = free places-ref l₂₇ (free (sliceTy ref) l₂₆ (free ref l₂₅ (free (sliceTy byte-ref) l₂₄ (free byte-ref l₂₃ (free (sliceTy ref) l₂₂ (free ref l₂₁ (free T′.mir l₂₀ (free tyPtr l₁₉ (free tyBool l₁₈ (free word l₁₇ (free tyBool l₁₆ (has word l₁₅ (vint w64 (length answers₀)) (has word l₁₄ (vint w64 (length logs₀)) (has (sliceTy ref) l₁₃ v₁ (has ref l₁₂ (vptr b₁ o₁) (has word l₁₁ (vint w64 (length steps)) (free word l₁₀ (free places-ty l₉ (has word l₈ (vint w64 n) (has (slice 3) l₇ v₃ (has bytes l₆ v₂ (has (slice 1) l₅ v₁ (has records l₄ v₀ (has word l₃ (vint w64 l) (has word l₂ (vint w64 k) (has word l₁ (vint w64 r) (free word l₀ (Owned ws logs₀ answers₀ []))))))))))))))))))))))))))))
 
@@ -463,9 +468,9 @@ module _ {M : Type 1} (𝓤 : URA M) (H : Heap 𝓤) (A : Atoms 𝓤) (W : Laws 
         freed (Owned ws logs₀ answers₀ []) _ (by ! (exits n ws logs₀ answers₀ n-fits lw refl refl (declined r k l steps words₀ logs₀ answers₀ n ws began (not-is (eqb n 0) other)))))
         (λ right. skips ! $ exec ! C Λ En parts.t-9 (atRet En Post) $
         -- the places, all 0
-        owned ! u64 (Is u64) (uint-makes 𝓤 H A W w64) 0 (vint w64 0 ∷ []) (refl, lit< tt) $ use1 W (‵ (Places .own zeros (zeros-val ∷ []))) (array-repeat 𝓤 H A W u64 (uint-copy 𝓤 H A W w64) 256 0 (vint w64 0)) $
+        owned ! u64 (Is u64) (uint-makes 𝓤 H A W w64) 0 (vint w64 0 ∷ []) (refl, lit< tt) $ use1 W (‵ (Places .own zeros (zeros-val ∷ []))) (array-repeat 𝓤 H A W u64 (uint-copy 𝓤 H A W w64) links 0 (vint w64 0)) $
         peeks ! Places (Is Places) (shows 𝓤 H A Places) zeros (zeros-val ∷ []) (λ is.
-        assigns ! (rep ! 256 (lit ! tt)) (from ! (stop !)) (init ! 37 refl (array-lawful 𝓤 H A W u64 (uint-lawful 𝓤 H A W w64) 256 .typed zeros (zeros-val ∷ []) is .0)) $
+        assigns ! (rep ! links (lit ! tt)) (from ! (stop !)) (init ! 37 refl (array-lawful 𝓤 H A W u64 (uint-lawful 𝓤 H A W w64) links .typed zeros (zeros-val ∷ []) is .0)) $
         move ! (37 ∷ 0 ∷ []) $ use2 W (‵ (InPlaces zeros l₉)) (part-in 𝓤 H A W Places refl fullShare zeros l₉ 0 zeros-val) $
         assigns ! (of-opd ! (lit ! tt)) (from ! (stop !)) (init ! 35 refl (tt, record { fits = lit< tt })) $
         forget ! 23 refl $ forget ! 25 refl $ forget ! 27 refl $ forget ! 29 refl $ forget ! 31 refl $ forget ! 33 refl $ forget ! 38 refl $
@@ -474,18 +479,18 @@ module _ {M : Type 1} (𝓤 : URA M) (H : Heap 𝓤) (A : Atoms 𝓤) (W : Laws 
         loops ! 𝓣 (Near ws (same right)) (Nearer-wf r k l steps words₀ logs₀ answers₀ ws) (At ws (same right)) (turns ws (same right) (finishes right)) (starts r k l steps words₀ logs₀ answers₀ ws lw (same right) (begun-given r k l steps words₀ logs₀ answers₀ n ws began (not-not (eqb n 0) right)))))
       where
         zeros-val : Val
-        zeros-val = arrayVal (replicate 256 (vint w64 0))
+        zeros-val = arrayVal (replicate links (vint w64 0))
 
-        same : Holds (not (not (eqb n 0))) → length answers₀ ≡ length steps
+        same : Holds (not (not (eqb n 0))) → length answers₀ ≡ length steps * answer-length
         same right = begun-answers r k l steps words₀ logs₀ answers₀ n ws began (not-not (eqb n 0) right)
 
         finishes : Holds (not (not (eqb n 0))) → (t : State r k l steps words₀ logs₀ answers₀ ws) → length steps ≤ t .i → Gives r k l steps words₀ logs₀ answers₀ 0 (t .words) (t .logs) (t .answers)
         finishes right t over = finished r k l steps words₀ logs₀ answers₀ n ws began (not-not (eqb n 0) right) (t .i) (t .words) (t .logs) (t .answers) over (t .running)
 
   -- the MIR up to the branch: of what the records own the fractured borrow and the name's value are taken out, the words are lent to `begin_records`, and come back
-  walk : (𝓣 : Tables 𝓤 H) → Triple 𝓤 (𝓣 .C #begin-records) (Begin 𝓤 H A mem run) → Triple 𝓤 (𝓣 .C #turn-record) (Turn 𝓤 H A mem run)
+  walk : (𝓣 : Tables 𝓤 H) → Triple 𝓤 (𝓣 .C #begin-records) (Begin 𝓤 H A mem run) → Triple 𝓤 (𝓣 .C #answer-record) (Answer 𝓤 H A mem run)
       → ent 𝓤 (onEntry 𝓤 H A f.signature (bound .0 .0) (bound .0 .1) (bound .0 .3) (bound .0 .4)) (WpFn 𝓤 H (𝓣 .C) (𝓣 .Λ) code.function (vint w64 r ∷ vint w64 k ∷ vint w64 l ∷ v₀ ∷ v₁ ∷ v₂ ∷ v₃ ∷ []) Post)
-  walk 𝓣 known-begin known-turn =
+  walk 𝓣 known-begin known-answer =
       qed W ((‵ (flft κ₀ q₀) ⊛ ‵ (flft κ₁ q₁) ⊛ ‵ (flft κ₂ q₂) ⊛ ‵ (flft κ₃ q₃) ⊛ ‵ ftrue)
       ∷ ‵ (owns (u64 ∷ u64 ∷ u64 ∷ ShrSlice (named 0) κ₀ T.the-row ∷ MutSlice (named 1) κ₁ u64 ∷ MutSlice (named 2) κ₂ u8 ∷ MutSlice (named 3) κ₃ u64 ∷ []) (bound .0 .3) (bound .0 .4)) ∷ []) ∵
       enter ! (𝓣 .C) (𝓣 .Λ) code.function (vint w64 r ∷ vint w64 k ∷ vint w64 l ∷ v₀ ∷ v₁ ∷ v₂ ∷ v₃ ∷ []) _ $
@@ -516,9 +521,9 @@ module _ {M : Type 1} (𝓤 : URA M) (H : Heap 𝓤) (A : Atoms 𝓤) (W : Laws 
       move ! (0 ∷ 5 ∷ 2 ∷ []) $
       use3 W (later (‵ (Words (z .1 .1 .1 .1 .0)) ⊛ ‵ (flft κ₁ q₁))) (comes-back u64 κ₁ (ν ∷ []) q₁ γ₁ b₁ o₁ 𝓤 H A W (named 1) (named 0) words₀ (v₁ ∷ []) δ₁ (z .1 .1 .1 .1 .0) room₁ lw refl) $ await ! tt $ split ! $
       -- [the words; κ₁; true; …; the result; _27; …; room for _0; …; κ₀; κ₂; κ₃; the fractured borrow; the name's value; the logs; the answers]
-      keep ! (5 ∷ 6 ∷ 7 ∷ 8 ∷ 9 ∷ 10 ∷ 11 ∷ 12 ∷ 13 ∷ 14 ∷ 15 ∷ 16 ∷ 17 ∷ 18 ∷ 19 ∷ 20 ∷ 21 ∷ 22 ∷ 23 ∷ 24 ∷ 25 ∷ 26 ∷ 27 ∷ 28 ∷ 29 ∷ 30 ∷ 31 ∷ 32 ∷ 33 ∷ 34 ∷ 35 ∷ 36 ∷ 37 ∷ 38 ∷ 39 ∷ 40 ∷ 41 ∷ 42 ∷ 43 ∷ 44 ∷ 45 ∷ 46 ∷ 47 ∷ 48 ∷ 49 ∷ 50 ∷ 51 ∷ 52 ∷ 53 ∷ 54 ∷ 55 ∷ 56 ∷ 57 ∷ 58 ∷ 59 ∷ 60 ∷ 61 ∷ 1 ∷ 62 ∷ 63 ∷ 64 ∷ 65 ∷ 0 ∷ 66 ∷ 67 ∷ []) $ goes-on 𝓣 known-begin known-turn l₀ l₁ l₂ l₃ l₄ l₅ l₆ l₇ l₈ l₉ l₁₀ l₁₁ l₁₂ l₁₃ l₁₄ l₁₅ l₁₆ l₁₇ l₁₈ l₁₉ l₂₀ l₂₁ l₂₂ l₂₃ l₂₄ l₂₅ l₂₆ l₂₇ n (z .1 .1 .1 .1 .0) (is .1) lw began))))))))))))))))))))))))))))))))
+      keep ! (5 ∷ 6 ∷ 7 ∷ 8 ∷ 9 ∷ 10 ∷ 11 ∷ 12 ∷ 13 ∷ 14 ∷ 15 ∷ 16 ∷ 17 ∷ 18 ∷ 19 ∷ 20 ∷ 21 ∷ 22 ∷ 23 ∷ 24 ∷ 25 ∷ 26 ∷ 27 ∷ 28 ∷ 29 ∷ 30 ∷ 31 ∷ 32 ∷ 33 ∷ 34 ∷ 35 ∷ 36 ∷ 37 ∷ 38 ∷ 39 ∷ 40 ∷ 41 ∷ 42 ∷ 43 ∷ 44 ∷ 45 ∷ 46 ∷ 47 ∷ 48 ∷ 49 ∷ 50 ∷ 51 ∷ 52 ∷ 53 ∷ 54 ∷ 55 ∷ 56 ∷ 57 ∷ 58 ∷ 59 ∷ 60 ∷ 61 ∷ 1 ∷ 62 ∷ 63 ∷ 64 ∷ 65 ∷ 0 ∷ 66 ∷ 67 ∷ []) $ goes-on 𝓣 known-begin known-answer l₀ l₁ l₂ l₃ l₄ l₅ l₆ l₇ l₈ l₉ l₁₀ l₁₁ l₁₂ l₁₃ l₁₄ l₁₅ l₁₆ l₁₇ l₁₈ l₁₉ l₂₀ l₂₁ l₂₂ l₂₃ l₂₄ l₂₅ l₂₆ l₂₇ n (z .1 .1 .1 .1 .0) (is .1) lw began))))))))))))))))))))))))))))))))
 
-module _ {M : Type 1} (𝓤 : URA M) (H : Heap 𝓤) (A : Atoms 𝓤) (W : Laws 𝓤 H A) (mem : Memory → SProp 𝓤) (run : Routine → Fun 𝓤) (𝓣 : Tables 𝓤 H) (known-begin : Triple 𝓤 (𝓣 .C #begin-records) (Begin 𝓤 H A mem run)) (known-turn : Triple 𝓤 (𝓣 .C #turn-record) (Turn 𝓤 H A mem run)) where
+module _ {M : Type 1} (𝓤 : URA M) (H : Heap 𝓤) (A : Atoms 𝓤) (W : Laws 𝓤 H A) (mem : Memory → SProp 𝓤) (run : Routine → Fun 𝓤) (𝓣 : Tables 𝓤 H) (known-begin : Triple 𝓤 (𝓣 .C #begin-records) (Begin 𝓤 H A mem run)) (known-answer : Triple 𝓤 (𝓣 .C #answer-record) (Answer 𝓤 H A mem run)) where
   run-records-walks : Walks 𝓤 H A f.ended stayed (WpFn 𝓤 H (𝓣 .C) (𝓣 .Λ) code.function) (f.clauses 𝓤 H A mem run)
   run-records-walks = walked 𝓤 H A f.ended stayed (f.clauses 𝓤 H A mem run) (WpFn 𝓤 H (𝓣 .C) (𝓣 .Λ) code.function) (λ κs. (uint-vals w64, (uint-vals w64, (uint-vals w64, (slice-vals, (slice-vals, (slice-vals, (slice-vals, tt))))))))
       (λ κs. (uint-tells w64, (uint-tells w64, (uint-tells w64, (shr-slice-tells (named 0) (κs .0) T.the-row, (mut-slice-tells (named 1) (κs .1 .0) u64, (mut-slice-tells (named 2) (κs .1 .1 .0) u8, (mut-slice-tells (named 3) (κs .1 .1 .1 .0) u64, tt))))))))
@@ -526,7 +531,7 @@ module _ {M : Type 1} (𝓤 : URA M) (H : Heap 𝓤) (A : Atoms 𝓤) (W : Laws 
       (let x = a .1 .1 .1 in let are′ = are .1 .1 .1 in
       walk 𝓤 H A W mem run (κs .0) (κs .1 .0) (κs .1 .1 .0) (κs .1 .1 .1 .0) (qs .0) (qs .1 .0) (qs .1 .1 .0) (qs .1 .1 .1 .0) (a .0) (a .1 .0) (a .1 .1 .0) (are .0 .1) (are .1 .0 .1) (are .1 .1 .0 .1)
       (x .0 .ptr .0) (x .0 .ptr .1) (x .0 .name) (x .0 .now) (x .1 .0 .ptr .0) (x .1 .0 .ptr .1) (x .1 .0 .name) (x .1 .0 .now) (x .1 .1 .0 .ptr .0) (x .1 .1 .0 .ptr .1) (x .1 .1 .0 .name) (x .1 .1 .0 .now)
-      (x .1 .1 .1 .0 .ptr .0) (x .1 .1 .1 .0 .ptr .1) (x .1 .1 .1 .0 .name) (x .1 .1 .1 .0 .now) (are′ .0 .0 .1) (are′ .1 .0 .0 .1) (are′ .1 .1 .0 .0 .1) (are′ .1 .1 .1 .0 .0 .1) 𝓣 known-begin known-turn))
+      (x .1 .1 .1 .0 .ptr .0) (x .1 .1 .1 .0 .ptr .1) (x .1 .1 .1 .0 .name) (x .1 .1 .1 .0 .now) (are′ .0 .0 .1) (are′ .1 .0 .0 .1) (are′ .1 .1 .0 .0 .1) (are′ .1 .1 .1 .0 .0 .1) 𝓣 known-begin known-answer))
 
   run-records-meets : Meets 𝓤 H A f.signature (WpFn 𝓤 H (𝓣 .C) (𝓣 .Λ) code.function) (f.spec 𝓤 H A mem run)
   run-records-meets = walk-meets 𝓤 H A f.ended stayed W (
@@ -551,4 +556,4 @@ yelansub-run-records-spec 𝓤 H 𝓜 𝓖 𝓡 =
     (tables 𝓤 H 𝓜 𝓡 code.env .C) (tables 𝓤 H 𝓜 𝓡 code.env .Λ) #run-records code.function (code.unfolded 𝓤 H 𝓜 𝓡)
     (run-records-meets 𝓤 H (𝓖 .A) (givenOf 𝓤 H 𝓜 𝓖) (𝓜 .mem) (𝓡 .run) (tablesOf 𝓤 H 𝓜 (tables 𝓤 H 𝓜 𝓡 code.env))
     (cited 𝓤 H (Begin 𝓤 H (𝓖 .A) (𝓜 .mem) (𝓡 .run)) 𝓜 𝓡 code.env #begin-records begin-def.routine code.calls-yelansub·records·begin-records (begin-thm.met 𝓤 H 𝓜 𝓖 𝓡))
-    (cited 𝓤 H (Turn 𝓤 H (𝓖 .A) (𝓜 .mem) (𝓡 .run)) 𝓜 𝓡 code.env #turn-record turn-def.routine code.calls-yelansub·records·turn-record (turn-thm.met 𝓤 H 𝓜 𝓖 𝓡)))
+    (cited 𝓤 H (Answer 𝓤 H (𝓖 .A) (𝓜 .mem) (𝓡 .run)) 𝓜 𝓡 code.env #answer-record answer-def.routine code.calls-yelansub·records·answer-record (answer-thm.met 𝓤 H 𝓜 𝓖 𝓡)))

@@ -1,0 +1,178 @@
+-- LAWS. What the code of a step is given and what it has done, as records; and that what the code's parts do is the step.
+use Prim.Native.Nat.{ℕ, suc, _+_, _*_, _≤_, _<_}
+use mathlib.Core.Path.{_≡_, refl, sym, ap, subst, _∙_}
+use mathlib.Core.Logic.{_≢_}
+use mathlib.Core.Bool.{cond}
+use mathlib.Core.List.{List, _++_}
+use native.Mathlib.Omega.{arith}
+use lib.Dec.{eqb}
+use lib.Seq.{sets, getD-set-same, length-take-le}
+use lib.ListN.{length, take, drop, set, getD, length-set}
+use borrow.Author.Tests.{lt-ltb, le-ltb}
+use Rattle.protocol.specs.Limits.{most-cards, most-counters, short-output, nothing-waiting, log-full}
+use Rattle.protocol.specs.Checks.{Gives}
+use Rattle.protocol.specs.RoundRobin.{IsLink}
+use Rattle.wire.specs.Message.{called-length}
+use Rattle.replica_model.specs.declared.Sent.{Sent}
+use Rattle.replica_model.specs.declared.Taken.{Taken}
+use Rattle.replica_model.specs.Layout.{replica-length}
+use Rattle.replica_model.specs.Calls.{SendOutcome, TakeOutcome, take-on}
+use Rattle.chassis_model.specs.ListParts.{part, put-part}
+use Rattle.chassis_model.specs.Log.{waiting-part}
+use Rattle.chassis_model.specs.ListPartsLaws.{part-room, part-length}
+use Rattle.chassis_model.specs.declared.Making.{Making}
+use Rattle.chassis_model.specs.declared.Action.{Action}
+use Rattle.chassis_model.specs.declared.Action.the-variants.{Make, Deliver}
+use Rattle.chassis_model.specs.declared.Step.{Step}
+use Rattle.chassis_model.specs.declared.StepAnswer.{StepAnswer}
+use Rattle.chassis_model.specs.Run.{call-of, State, Stepped, answered, answer-words, answer-length, N-at, made, delivered, step-checks, acted, step-on, state-after, answers-of}
+use Rattle.chassis_model.specs.StepLaws.{performed-is, declined-is, link-passes, link-test}
+use Rattle.chassis_model.specs.Places.{link-place, Reached, free-place-is, place-inside, waits-at, made-reached, delivered-reached}
+use Rattle.chassis.specs.declared.Sizes.{Sizes}
+
+abbrev pub state-of : List ℕ → List ℕ → State
+state-of words logs = record { words = words; logs = logs }
+
+-- the words of as many replicas as there are cards
+pub record WordsFit (sizes : Sizes) (words : List ℕ) : Type 0 where
+  pub few-cards : sizes .cards ≤ most-cards
+  pub few-counters : sizes .counters ≤ most-counters
+  pub replica-is : sizes .«replica_words» ≡ replica-length (sizes .cards) (sizes .counters)
+  pub long : length words ≡ sizes .cards * sizes .«replica_words»
+
+-- a state that a run of these sizes has reached, with the place of each link's next message
+pub record StepReady (sizes : Sizes) (words logs places : List ℕ) : Type 0 where
+  pub replica-is : sizes .«replica_words» ≡ replica-length (sizes .cards) (sizes .counters)
+  pub reached : Reached (sizes .cards) (sizes .counters) (sizes .«log_bytes») (state-of words logs) places
+
+-- what the action does was done, and the places moved along
+pub record StepDone (sizes : Sizes) (action : Action) (words logs : List ℕ) (answer : StepAnswer) (words′ logs′ places′ : List ℕ) : Type 0 where
+  pub outcome : _≡_ {A = Stepped} (record { answer = answer; state = state-of words′ logs′ })
+      (acted (sizes .cards) (sizes .counters) (sizes .«log_bytes») action (state-of words logs))
+  pub given : StepReady sizes words′ logs′ places′
+
+-- a call with the rest of a log as its output
+unfoldable pub appended : Making → ℕ → List ℕ → List ℕ → ℕ → SendOutcome
+appended making counter b log at =
+    let done = call-of making counter b (drop at log) in
+    record { answer = done .answer; words = done .words; out = take at log ++ done .out }
+
+-- step i is done: its answer stands in its words, and n is the next
+pub record StepAnswered (sizes : Sizes) (s : Step) (i : ℕ) (words logs answers words′ logs′ answers′ places′ : List ℕ) (n : ℕ) : Type 0 where
+  pub next : n ≡ i + 1
+  pub given : StepReady sizes words′ logs′ places′
+  pub state-is : state-of words′ logs′ ≡ step-on (sizes .cards) (sizes .counters) (sizes .«log_bytes») s (state-of words logs) .state
+  pub answers-are : answers′
+      ≡ sets answers (i * answer-length) (answer-words (step-on (sizes .cards) (sizes .counters) (sizes .«log_bytes») s (state-of words logs) .answer))
+
+pub answers-long : {sizes : Sizes} {s : Step} {i : ℕ} {words logs answers words′ logs′ answers′ places′ : List ℕ} {n : ℕ}
+    → StepAnswered sizes s i words logs answers words′ logs′ answers′ places′ n → length answers′ ≡ length answers
+answers-long done = ap length (done .answers-are) ∙ simp length-set
+
+-- all steps are done, from the first state on
+pub record RunDone (sizes : Sizes) (steps : List Step) (words logs words′ logs′ answers′ : List ℕ) : Type 0 where
+  pub state-is : state-of words′ logs′ ≡ state-after (sizes .cards) (sizes .counters) (sizes .«log_bytes») steps (state-of words logs)
+  pub answers-are : answers′ ≡ answers-of (sizes .cards) (sizes .counters) (sizes .«log_bytes») steps (state-of words logs)
+
+module _ (sizes : Sizes) (words logs places : List ℕ) (g : StepReady sizes words logs places) where
+  abbrev r : ℕ
+  r = sizes .cards
+
+  abbrev k : ℕ
+  k = sizes .counters
+
+  abbrev L : ℕ
+  L = sizes .«log_bytes»
+
+  abbrev size : ℕ
+  size = sizes .«replica_words»
+
+  abbrev st : State
+  st = state-of words logs
+
+  -- ---- what is lent
+
+  pub words-fit : WordsFit sizes words
+  words-fit =
+      let m = g .reached .matches in
+      record { few-cards = m .cards .sizes .few-cards; few-counters = m .cards .sizes .few-counters; replica-is = g .replica-is; long = rw (g .replica-is) (m .words-fit) }
+
+  -- the parts that are lent lie inside
+  pub words-room : (card : ℕ) → card < r → card * size + size ≤ length words
+  words-room card below = rw (words-fit .long) (part-room card r size below)
+
+  pub logs-room : (card : ℕ) → card < r → card * L + L ≤ length logs
+  logs-room card below = rw (g .reached .matches .logs-fit) (part-room card r L below)
+
+  pub log-long : (card : ℕ) → card < r → length (part L logs card) ≡ L
+  log-long card below = part-length r L card logs (g .reached .matches .logs-fit) below
+
+  pub card-few : (card : ℕ) → card < r → card < most-cards
+  card-few card below = let few = words-fit .few-cards in omega arith
+
+  pub place-small : (i s : ℕ) → i < r → s < r → getD places (link-place i s) 0 ≤ L
+  place-small i s hi hs = place-inside r k L st places (g .reached) i s hi hs
+
+  -- ---- an action that its checks decline leaves all as it is
+
+  pub declined-did : (a : Action) (n : ℕ) → n ≢ 0 → Gives (step-checks r k L a st) n → StepDone sizes a words logs (answered n) words logs places
+  declined-did a n some gives = record { outcome = sym (declined-is r k L st a n some gives); given = g }
+
+  pub none-did : (i s : ℕ) → IsLink r i s → N-at r k L st s s ≤ N-at r k L st i s → StepDone sizes (Deliver i s) words logs (answered nothing-waiting) words logs places
+  none-did i s is none = declined-did (Deliver i s) nothing-waiting (λ e. omega arith) (link-test r i s is, le-ltb _ _ none)
+
+  -- ---- a message made
+
+  module _ (m : Making) (card counter at : ℕ) (sent : Sent) (b log : List ℕ) (below : card < r) (here : at ≡ getD places (link-place card card) 0)
+      (done : _≡_ {A = SendOutcome} (record { answer = sent; words = b; out = log }) (appended m counter (part size words card) (part L logs card) at)) where
+    pub made-did : (a : StepAnswer) → a ≡ answered (cond (eqb (sent .number) short-output) log-full (sent .number))
+        → StepDone sizes (Make m card counter) words logs a (put-part size card b words) (put-part L card log logs) (set places (link-place card card) (at + sent .length))
+    unfolding made appended
+    made-did a number =
+        let call : SendOutcome = call-of m counter (part (replica-length r k) words card) (drop (getD places (link-place card card) 0) (part L logs card)) in
+        let now-done = rw (here, g .replica-is) at done in
+        let answer-is : sent ≡ call .answer = ap (λ o. o .answer) now-done in
+        let outcome : _≡_ {A = Stepped} (record { answer = a; state = state-of (put-part size card b words) (put-part L card log logs) }) (made r k L card (call-of m counter) st)
+        = rw (number, answer-is, ap (λ o. o .words) now-done, ap (λ o. o .out) now-done, g .replica-is, free-place-is r k L st places (g .reached) card below) in
+        record {
+          outcome = outcome ∙ sym (performed-is r k L st (Make m card counter) (lt-ltb card r below, tt));
+          given = record {
+            replica-is = g .replica-is;
+            reached =
+                subst (λ (s : State). Reached r k L s (set places (link-place card card) (at + sent .length))) (sym (ap (λ o. o .state) outcome))
+                (rw (answer-is, here) (made-reached r k L st places (g .reached) m card counter below));
+          };
+        }
+
+    -- the place it leaves lies inside the log
+    pub made-place : at + sent .length ≤ L
+    made-place =
+        let did = made-did _ refl in
+        let few = card-few card below in
+        let inside : link-place card card < length places = omega (arith, g .reached .places-are .size) in
+        rw (getD-set-same places (link-place card card) (at + sent .length) 0 inside) at (place-inside r k L _ _ (did .given .reached) card card below below)
+
+  -- ---- a message handed over
+
+  pub delivered-did : (i s at : ℕ) (taken : Taken) (b message : List ℕ) → IsLink r i s → N-at r k L st i s < N-at r k L st s s → at ≡ getD places (link-place i s) 0
+      → message ≡ take (called-length (drop at (part L logs s))) (drop at (part L logs s))
+      → _≡_ {A = TakeOutcome} (record { answer = taken; words = b }) (take-on (part size words i) message)
+      → StepDone sizes (Deliver i s) words logs (answered (taken .number)) (put-part size i b words) logs (set places (link-place i s) (at + length message))
+  unfolding delivered
+  delivered-did i s at taken b message (hi, hs, apart) waits here part-is done =
+      let stands = waits-at r k L st places (g .reached) i s hi hs waits in
+      let log = part L logs s in
+      let long : length message ≡ called-length (drop at log) = rw (part-is, here) (length-take-le _ _ (stands .room)) in
+      let waiting : message ≡ waiting-part (suc (N-at r k L st i s)) log = part-is ∙ rw here (sym (stands .waits)) in
+      let outcome : _≡_ {A = Stepped} (record { answer = answered (taken .number); state = state-of (put-part size i b words) logs }) (delivered r k L i s st)
+      = rw (← waiting, ← (g .replica-is), ← done) in
+      record {
+        outcome = outcome ∙ sym (performed-is r k L st (Deliver i s) (link-passes r k L st i s (hi, hs, apart) waits));
+        given = record {
+          replica-is = g .replica-is;
+          reached =
+              rw (long, here)
+              (subst (λ (x : Stepped). Reached r k L (x .state) (set places (link-place i s) (getD places (link-place i s) 0 + called-length (drop (getD places (link-place i s) 0) log))))
+              (sym outcome) (delivered-reached r k L st places (g .reached) i s hi hs apart waits));
+        };
+      }

@@ -1,0 +1,129 @@
+-- LAWS. A step of a reached state that makes a message: one of four things comes of the call (3, 4, 5 or a message sent), so the step answers 3, 4 or 14
+-- and leaves all as it was, or answers 0 and leaves the state with the message made, which is the chassis's with that message issued.
+use Prim.Native.Nat.{ℕ, _+_, _-_, _*_, _≤_, _<_}
+use mathlib.Core.Path.{_≡_, sym, _∙_}
+use mathlib.Core.Bool.{cond}
+use mathlib.Core.List.{List, [], _∷_, _++_}
+use native.Mathlib.Omega.{arith}
+use lib.ListN.{length, take, drop, length-append, length-take, length-drop, take-append-drop}
+use lib.Dec.{eqb}
+use Rattle.protocol.specs.Limits.{MAX, bad-counter, exhausted, short-output, log-full}
+use Rattle.protocol.specs.Cases.{by-place}
+use Rattle.protocol.specs.Tables.{put, put-same, put-other}
+use Rattle.protocol.specs.Chassis.{Message, issued}
+use Rattle.wire.specs.declared.Message as wire
+use Rattle.wire.specs.Message.{message-bytes, message-length}
+use Rattle.wire.specs.Claims.{message-bytes-length}
+use Rattle.replica_model.specs.Layout.{replica-length}
+use Rattle.replica_model.specs.Calls.{SendOutcome, not-sent, words-after}
+use Rattle.replica_model.specs.Format.{on-wire}
+use Rattle.chassis_model.specs.ListParts.{put-part}
+use Rattle.chassis_model.specs.ListPartsLaws.{part-length, put-part-same, put-part-length, part-put}
+use Rattle.chassis_model.specs.Run.{Making, call-of, State, Stepped, answered, declined, replica-of, log-of, free-from, made}
+use Rattle.chassis_model.specs.Answers.{message-size}
+use Rattle.chassis_model.specs.Log.{end-of}
+use Rattle.chassis_model.specs.LogLaws.{Readable, AllReadable, written, written-log}
+use Rattle.chassis_model.specs.Numbered.{wire-log, wire-log-append, length-numbered}
+use Rattle.chassis_model.specs.InStep.{CardsShow, own-N}
+use Rattle.chassis_model.specs.Matches.{Holds, RunAt, run-cards, words-in, log-in, N-in, free-in, room-in, put-words-fit, put-words-show}
+use Rattle.chassis_model.specs.Sends.{Outgoing, next-message, call-cases, issued-here}
+
+-- ---- one log: a message goes to its end
+
+holds-more : (log : List ℕ) (ms : List wire.Message) (x : wire.Message) (n : ℕ) → n ≡ length ms → Holds log ms → AllReadable ms → Readable x
+    → Holds (written (end-of n log) x log) (ms ++ x ∷ [])
+holds-more log ms x n e h all good =
+    rw e (record { rest = drop (length (message-bytes x)) (h .rest); bytes = written-log ms (h .rest) log (h .bytes) all x good })
+
+-- ---- the step
+
+module _ (r k L : ℕ) (st : State) (i : ℕ) where
+  -- what the step makes of the call's outcome
+  abbrev pub made-of : SendOutcome → Stepped
+  made-of done = record {
+    answer = answered (cond (eqb (done .answer .number) short-output) log-full (done .answer .number));
+    state = record {
+      words = put-part (replica-length r k) i (done .words) (st .words);
+      logs = put-part L i (take (free-from r k L st i) (log-of r k L st i) ++ done .out) (st .logs);
+    };
+  }
+
+  pub declined-made : (number : ℕ)
+      → made-of (not-sent number (replica-of r k L st i) (drop (free-from r k L st i) (log-of r k L st i)))
+      ≡ declined st (cond (eqb number short-output) log-full number)
+  declined-made number =
+      rw (put-part-same (replica-length r k) i (st .words), take-append-drop (free-from r k L st i) (log-of r k L st i), put-part-same L i (st .logs))
+
+-- a message over the bytes of a log leaves it as long as it was
+written-length : (at : ℕ) (x : wire.Message) (log : List ℕ) → message-length x ≤ length (drop at log) → length (written at x log) ≡ length log
+written-length at x log room =
+    let room′ : message-length x ≤ length log - at = rw (length-drop at log) at room in
+    simp (length-append, length-take, length-drop, message-bytes-length x) (omega arith)
+
+-- card i's message m as it is sent, the log with it at the end, and the state with it made
+module _ {r k L : ℕ} (now : RunAt r k L) (i : ℕ) (m : Message) where
+  abbrev pub as-sent : wire.Message
+  as-sent = on-wire i (N-in now i i + 1) m
+
+  abbrev pub log-with : List ℕ
+  log-with = written (free-in now i) as-sent (log-in now i)
+
+  abbrev pub state-made : State
+  state-made = record {
+    words = put-part (replica-length r k) i (words-after i m (words-in now i)) (now .state .words);
+    logs = put-part L i log-with (now .state .logs);
+  }
+
+module _ {r k L : ℕ} (now : RunAt r k L) (m : Making) (i q : ℕ) (hi : i < r) where
+  pub made-cases : (P : Stepped → Type 0)
+      → (k ≤ q → P (declined (now .state) bad-counter))
+      → (q < k → N-in now i i ≡ MAX → P (declined (now .state) exhausted))
+      → (q < k → N-in now i i < MAX → length (room-in now i) < message-size r m i (now .ledgers q) → P (declined (now .state) log-full))
+      → (q < k → Outgoing r k i (words-in now i) (next-message r (now .chassis) m i q)
+      → message-size r m i (now .ledgers q) ≤ length (room-in now i)
+      → P (record { answer = answered 0; state = state-made now i (next-message r (now .chassis) m i q) }))
+      → P (made r k L i (call-of m q) (now .state))
+  unfolding made
+  made-cases P three four fourteen sends =
+      call-cases (run-cards now) m i q hi (λ done. P (made-of r k L (now .state) i done)) (room-in now i)
+      (λ a. rw (declined-made r k L (now .state) i bad-counter) (three a))
+      (λ a b. rw (declined-made r k L (now .state) i exhausted) (four a b))
+      (λ a b c. rw (declined-made r k L (now .state) i short-output) (fourteen a b c))
+      sends
+
+-- ---- the state after a message is made
+
+module _ {r k L : ℕ} (now : RunAt r k L) (i : ℕ) (hi : i < r) (m : Message) (goes : Outgoing r k i (words-in now i) m) where
+  made-here : CardsShow r k (put i (words-after i m (words-in now i)) (words-in now)) (issued i m (now .chassis))
+  made-here = issued-here (run-cards now) i hi m goes
+
+  pub made-words-fit : length (state-made now i m .words) ≡ r * replica-length r k
+  made-words-fit = put-words-fit now i hi _ made-here
+
+  -- each card's words are those of the chassis after it
+  pub made-shows : CardsShow r k (replica-of r k L (state-made now i m)) (issued i m (now .chassis))
+  made-shows = put-words-show now i hi _ made-here
+
+  module _ (room : message-length (as-sent now i m) ≤ length (room-in now i)) where
+    log-length : length (log-with now i m) ≡ L
+    log-length = written-length (free-in now i) (as-sent now i m) (log-in now i) room ∙ part-length r L i (now .state .logs) (now .matches .logs-fit) hi
+
+    pub made-logs-fit : length (state-made now i m .logs) ≡ r * L
+    made-logs-fit = put-part-length r L i (log-with now i m) (now .state .logs) (now .matches .logs-fit) hi log-length
+
+    -- each log after it
+    pub log-made : (j : ℕ) → log-of r k L (state-made now i m) j ≡ put i (log-with now i m) (log-in now) j
+    log-made j = part-put r L i (log-with now i m) (now .state .logs) (now .matches .logs-fit) hi log-length j
+
+    log-more : Holds (log-with now i m) (wire-log i (now .chassis .log i ++ m ∷ []))
+    log-more =
+        let all = own-N (run-cards now) i hi in
+        let log = now .chassis .log i in
+        rw (all, wire-log-append i log m)
+        (holds-more (log-in now i) (wire-log i log) _ (length log) (sym (length-numbered i 0 log)) (now .matches .holds i hi) (now .matches .cards .cards-show .readable i hi)
+        (rw all at (goes .readable)))
+
+    -- each log is that of the chassis after it
+    pub made-holds : (j : ℕ) → j < r → Holds (log-of r k L (state-made now i m) j) (wire-log j (issued i m (now .chassis) .log j))
+    unfolding issued
+    made-holds j l = rw (log-made j) (by-place j i (λ e. rw e (simp put-same log-more)) (λ d. simp put-other (now .matches .holds j l)))

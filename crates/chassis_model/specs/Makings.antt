@@ -1,0 +1,132 @@
+-- LAWS. What a making is (`IsMaking`): the step of the ledger, and so the message, that it is; the call that sends that message; and its length. Each making has
+-- an instance here. All that is known of makings besides follows from these facts, and no law outside this file tells one making from another.
+use Prim.Native.Nat.{ℕ, zero, suc, _≤_, _<_}
+use mathlib.Core.Path.{_≡_, refl}
+use mathlib.Core.Bool.{Bool, true, false, cond}
+use mathlib.Core.List.{List, [], _∷_, _++_}
+use native.Mathlib.Omega.{arith}
+use lib.Dec.{eqb}
+use borrow.Author.Tests.{lt-ltb}
+use Rattle.protocol.specs.declared.Entry.{Entry}
+use Rattle.protocol.specs.declared.ClearEntry.{ClearEntry}
+use Rattle.protocol.specs.Entry.{present}
+use Rattle.protocol.specs.Ledger as ledger
+use Rattle.protocol.specs.Ledger.{Ledger, holds}
+use Rattle.protocol.specs.Chassis.{Message, Replica, Chassis, no-message, count-message, present-entries, clear-message, issued, done, enabled}
+use Rattle.protocol.specs.Alone.{Turns, step-counter, belongs-by-turns}
+use Rattle.protocol.specs.StoreLaws.{Shows, CardsBelow, shown, count-shown, clear-shown}
+use Rattle.protocol.specs.Functions.{count-below}
+use Rattle.protocol.specs.Checks.{Decided}
+use Rattle.wire.specs.Message.{increment-length, clear-length}
+use Rattle.replica_model.specs.Layout.{cards, own-card, layout}
+use Rattle.replica_model.specs.Calls.{state, not-sent, send-checks, sent-with, holders}
+use Rattle.replica_model.specs.ClaimTerms.{sent-as, Writable, Isolates}
+use Rattle.replica_model.specs.PresentLaws.{present-below}
+use Rattle.replica_model.specs.Senders.{Sending, count-writable, clear-writable}
+use Rattle.replica_model.specs.CallsLaws.{count-decided, clear-decided}
+use Rattle.replica_model.specs.Claims.{count-isolates, clear-isolates}
+use Rattle.replica_model.specs.Format.{format-1}
+use Rattle.chassis_model.specs.Run.{Making, Count, Clear, Make, call-of}
+use Rattle.chassis_model.specs.Ledger.{ledger-action}
+use Rattle.chassis_model.specs.Answers.{message-size}
+use Rattle.chassis_model.specs.Numbered.{Sendable}
+use Rattle.chassis_model.specs.InStep.{Heads}
+
+-- the message that a count or a clear makes on a chassis of r cards, from its card's replica
+unfoldable pub step-message : ℕ → ledger.Step → Replica → Message
+step-message r (ledger.count i q w) b = count-message i q w b
+step-message r (ledger.clear i q) b = clear-message r q b
+step-message r (ledger.deliver i s) b = no-message
+
+-- how long it is, where e cards hold
+unfoldable pub step-size : ledger.Step → ℕ → ℕ
+step-size (ledger.count i q w) e = increment-length
+step-size (ledger.clear i q) e = clear-length e
+step-size (ledger.deliver i s) e = 0
+
+-- the message that card i makes on counter q; the one that the words' own card makes, and its length
+abbrev pub message-of : Making → ℕ → ℕ → ℕ → Replica → Message
+message-of m r i q b = step-message r (ledger-action (Make m i q)) b
+
+abbrev pub own-message : Making → List ℕ → ℕ → Message
+own-message m b q = message-of m (cards b) (own-card b) q (state b)
+
+abbrev pub own-size : Making → List ℕ → ℕ → ℕ
+own-size m b q = step-size (ledger-action (Make m (own-card b) q)) (holders b q)
+
+pub record IsMaking (m : Making) : Type 1 where
+  -- to the ledger it is a count by one unit or a clear
+  pub as-step : (P : (ℕ → ℕ → ledger.Step) → Type 0) → P (λ i q. ledger.count i q 1) → P (λ i q. ledger.clear i q) → P (λ i q. ledger-action (Make m i q))
+  -- its call has the checks of every call that sends, and sends that step's message
+  pub decided : (q : ℕ) (b out : List ℕ)
+      → Decided (λ o. o .answer .number) (λ n. not-sent n b out) (send-checks b q out (own-size m b q)) (sent-with format-1 b out (own-message m b q)) (call-of m q b out)
+  -- the length that the counter's ledger gives it
+  pub size-told : (r i q : ℕ) (l : Ledger) → message-size r m i l ≡ step-size (ledger-action (Make m i q)) (count-below r (λ j. holds i j l))
+  -- the call leaves other counters
+  pub isolates : (q : ℕ) (b out : List ℕ) → Isolates b q (call-of m q b out .words)
+
+is-count : IsMaking Count
+unfolding call-of ledger-action step-message step-size
+is-count = record {
+  as-step = λ P counts clears. counts;
+  decided = λ q b out. count-decided b q out;
+  size-told = λ r i q l. refl;
+  isolates = λ q b out. count-isolates b q out;
+}
+
+is-clear : IsMaking Clear
+unfolding call-of ledger-action step-message step-size
+is-clear = record {
+  as-step = λ P counts clears. clears;
+  decided = λ q b out. clear-decided b q out;
+  size-told = λ r i q l. refl;
+  isolates = λ q b out. clear-isolates b q out;
+}
+
+pub making : (m : Making) → IsMaking m
+making Count = is-count
+making Clear = is-clear
+
+-- ---- its message keeps to the limits
+
+module _ (m : Making) where
+  pub message-sendable : (r k i q : ℕ) (b : Replica) → q < k → Sendable r k (message-of m r i q b)
+  unfolding step-message count-message clear-message
+  message-sendable r k i q b hq =
+      making m .as-step (λ step. Sendable r k (step-message r (step i q) b)) (hq, refl) (hq, present-below (b .entry q) r r (omega arith))
+
+  -- ---- it can be written
+
+  pub message-writable : (b : List ℕ) (q : ℕ) → Sending b q → Writable (sent-as b (own-message m b q)) (own-size m b q)
+  unfolding step-message step-size
+  message-writable b q s =
+      making m .as-step (λ step. Writable (sent-as b (step-message (cards b) (step (own-card b) q) (state b))) (step-size (step (own-card b) q) (holders b q)))
+      (count-writable b q s) (clear-writable b q s)
+
+  -- the words' message is that of the replica that they show
+  pub message-shown : (r k i q : ℕ) (b : List ℕ) (c : Replica) → Heads r k i b → Shows (layout r k) r k b c → i < r → q < k
+      → own-message m b q ≡ message-of m r i q c
+  unfolding step-message
+  message-shown r k i q b c h s hi hq =
+      rw (h .own-is, h .cards-are, h .counters-are)
+      (making m .as-step (λ step. step-message r (step i q) (shown (layout r k) b) ≡ step-message r (step i q) c)
+      (count-shown r k (layout r k) i q 1 b c hi hq s) (clear-shown r k (layout r k) q b c hq s))
+
+  -- ---- the theory's step: it is enabled, and issues the message
+
+  pub making-enabled : (r i q : ℕ) (ch : Chassis) → i < r → enabled r (ledger-action (Make m i q)) ch ≡ true
+  unfolding enabled
+  making-enabled r i q ch hi = making m .as-step (λ step. enabled r (step i q) ch ≡ true) (rw (lt-ltb i r hi)) (lt-ltb i r hi)
+
+  pub making-done : (r i q : ℕ) (ch : Chassis) → done r (ledger-action (Make m i q)) ch ≡ issued i (message-of m r i q (ch .replica i)) ch
+  unfolding done step-message
+  making-done r i q ch = making m .as-step (λ step. done r (step i q) ch ≡ issued i (step-message r (step i q) (ch .replica i)) ch) refl refl
+
+  -- it is of counter q
+  pub making-counter : (i q : ℕ) (ch : Chassis) → step-counter (ledger-action (Make m i q)) ch ≡ q
+  unfolding step-counter
+  making-counter i q ch = making m .as-step (λ step. step-counter (step i q) ch ≡ q) refl refl
+
+  pub making-belongs : (i q c : ℕ) (turns : Turns) → belongs-by-turns q (ledger-action (Make m i c)) turns ≡ eqb c q
+  unfolding belongs-by-turns
+  making-belongs i q c turns = making m .as-step (λ step. belongs-by-turns q (step i c) turns ≡ eqb c q) refl refl

@@ -1,0 +1,5 @@
+pub mod Decimal
+pub mod Put
+pub mod DecimalLaws
+pub mod PutLaws
+pub mod Examples
