@@ -20,8 +20,8 @@ abbrev pub message-size : ℕ → Making → ℕ → Ledger → ℕ
 message-size r Count i l = increment-length
 message-size r Clear i l = clear-length (count-below r (λ j. holds i j l))
 
--- "12, 7 (any card named not below r), 3 (not for deliver), 4, 14, 13". Card i has made `made` messages, which take `used` bytes of its log. The ledgers
--- are those of every counter; any of them, say any's, tells whether the link has something to hand over.
+-- "12, 7 (any card named not below r), 3 (not for deliver), 4, 14, 13". The ledgers are those of every counter, and any of them
+-- (`any`) tells whether the link has something to hand over.
 abbrev pub due-checks : ℕ → ℕ → ℕ → ℕ → Action → State → (ℕ → Ledger) → List Check
 due-checks r k L any (Make m i q) st ls =
     or-else (ltb i r) bad-card ∷ or-else (ltb q k) bad-counter ∷ or-else (not (eqb (N-at r k L st i i) MAX)) exhausted

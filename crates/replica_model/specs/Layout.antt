@@ -92,5 +92,8 @@ layout r k = record {
 }
 
 -- "A fresh replica has zeros after its first three words."
+abbrev pub fresh-head : ℕ → ℕ → ℕ → Head
+fresh-head r k own = record { cards = r; counters = k; own-card = own }
+
 unfoldable pub fresh-words : ℕ → ℕ → ℕ → List ℕ
-fresh-words r k own = head-words (record { cards = r; counters = k; own-card = own }) ++ replicate (2 * r + 3 * (r * k)) 0
+fresh-words r k own = head-words (fresh-head r k own) ++ replicate (2 * r + 3 * (r * k)) 0

@@ -12,7 +12,7 @@ use Rattle.protocol.specs.Tables.{put, put-same, put-other, put-same-row, put-o
 use Rattle.protocol.specs.declared.Entry.{Entry}
 use Rattle.protocol.specs.Chassis.{fresh-replica}
 use Rattle.protocol.specs.StoreLaws.{Shows, Lawful}
-use Rattle.replica_model.specs.Layout.{Head, head-of, cards, counters, own-card, head-words, head-length, replica-length, at-C, at-N, cell, at-entry, C-of, entry-of, set-C, set-three, set-entry, layout, fresh-words}
+use Rattle.replica_model.specs.Layout.{Head, head-of, cards, counters, own-card, head-words, head-length, replica-length, at-C, at-N, cell, at-entry, C-of, entry-of, set-C, set-three, set-entry, layout, fresh-head, fresh-words}
 
 -- ---- which entry is where: the one place with products
 
@@ -152,15 +152,11 @@ zeros (suc n) (suc i) = zeros n i
 fresh-word : (r k i x : ℕ) → head-length ≤ x → getD (fresh-words r k i) x 0 ≡ 0
 unfolding fresh-words
 fresh-word r k i x l =
-    let h : List ℕ = head-words (record { cards = r; counters = k; own-card = i }) in
+    let h : List ℕ = head-words (fresh-head r k i) in
     let e : x ≡ head-length + (x - head-length) = omega arith in
     ap (λ (y : ℕ). getD (fresh-words r k i) y 0) e
     ∙ getD-append-add h (replicate (2 * r + 3 * (r * k)) 0) (x - head-length) 0
     ∙ zeros (2 * r + 3 * (r * k)) (x - head-length)
-
-pub fresh-head : (r k i : ℕ) → head-of (fresh-words r k i) ≡ record { cards = r; counters = k; own-card = i }
-unfolding fresh-words
-fresh-head r k i = refl
 
 pub fresh-shows : (r k i : ℕ) → Shows (layout r k) r k (fresh-words r k i) fresh-replica
 unfolding fresh-words
