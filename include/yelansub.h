@@ -88,7 +88,7 @@ extern "C" {
 #define YELANSUB_EARLY 9            /* an earlier message of the sender is missing */
 #define YELANSUB_IMPLAUSIBLE 10     /* no card can have sent this next */
 #define YELANSUB_BAD_SIZES 11       /* sizes of a run wrong */
-#define YELANSUB_BAD_KIND 12        /* step kind not 1, 2 or 3 */
+#define YELANSUB_BAD_KIND 12        /* no such kind of step */
 #define YELANSUB_NOTHING_WAITING 13 /* nothing to deliver on this link */
 #define YELANSUB_LOG_FULL 14        /* the card's log is too short for the message */
 
@@ -249,7 +249,7 @@ struct yelansub_span yelansub_waiting(const uint8_t *log, size_t log_len, uint64
  *       YELANSUB_MOST_COUNTERS, steps_len is no multiple of
  *       YELANSUB_STEP_BYTES, or words_len, logs_len or answers_len does not fit.
  * Each step's answer is 0, or the first of
- *   12  the kind is not 1, 2 or 3,
+ *   12  there is no such kind,
  *   7   a card is not below cards, or a delivery names one card twice,
  *   3   the counter is not below counters (not for a delivery),
  *   4   the card has made its last message (count and clear),

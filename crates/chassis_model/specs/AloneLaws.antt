@@ -26,13 +26,13 @@ use Rattle.replica_model.specs.FormatLaws.{on-wire-length}
 use Rattle.chassis_model.specs.LogLaws.{log-bytes, free-place}
 use Rattle.chassis_model.specs.Numbered.{numbered, wire-log, length-numbered}
 use Rattle.chassis_model.specs.Run.{Making, Action, Make, Deliver, Nothing, Step, action-of, State, replica-of, step-on, state-after, answers-of, sizes-right, run-on}
-use Rattle.chassis_model.specs.Answers.{fresh-state, message-size, due-checks}
+use Rattle.chassis_model.specs.Answers.{fresh-state, message-size, step-size, due-checks}
 use Rattle.chassis_model.specs.Ledger.{ledger-action, ledger-step, accepted-of}
 use Rattle.chassis_model.specs.Alone.{own-steps}
 use Rattle.chassis_model.specs.AloneQueues.{queued-steps, own-steps-are}
 use Rattle.chassis_model.specs.InStep.{CardsAt, reached-N, own-N}
 use Rattle.chassis_model.specs.Matches.{RunAt, run-at, run-cards, log-in, free-in}
-use Rattle.chassis_model.specs.Makings.{step-size, making, making-belongs}
+use Rattle.chassis_model.specs.Makings.{making, making-belongs}
 use Rattle.chassis_model.specs.StepLaws.{accepted-enabled, accepted-leaves, declined-leaves}
 use Rattle.chassis_model.specs.AnswerLaws.{due-distinct, action-due}
 use Rattle.chassis_model.specs.Reads.{read-matches}
@@ -72,11 +72,9 @@ CardsBeside {r} q turns now alone = RunsBeside r q turns (now .chassis) (now .le
 
 -- a message is as long there
 pub same-size : {r k : ℕ} (q : ℕ) (turns : Turns) (now alone : CardsAt r k) → CardsBeside q turns now alone
-    → (m : Making) (i : ℕ) → message-size r m i (alone .ledgers q) ≡ message-size r m i (now .ledgers q)
+    → (m : Making) (i : ℕ) → message-size r m i q (alone .ledgers q) ≡ message-size r m i q (now .ledgers q)
 same-size {r} q turns now alone b m i =
-    making m .size-told r i q (alone .ledgers q)
-    ∙ ap (step-size (ledger-action (Make m i q))) (count-cong r _ _ (λ j below. same-holds (now .ledgers q) (alone .ledgers q) (b .ledgers .sets) i j))
-    ∙ sym (making m .size-told r i q (now .ledgers q))
+    ap (step-size (ledger-action (Make m i q))) (count-cong r _ _ (λ j below. same-holds (now .ledgers q) (alone .ledgers q) (b .ledgers .sets) i j))
 
 -- q reads the same on both
 pub same-reads-beside : {r k : ℕ} (q : ℕ) (turns : Turns) (now alone : CardsAt r k) → CardsBeside q turns now alone
@@ -118,7 +116,7 @@ module _ {r k L : ℕ} (q : ℕ) (turns : Turns) (now alone : RunAt r k L) (b : 
       let (there, (counter, (more, (room, _)))) = first-passes (due-checks r k L q a (now .state) (now .ledgers)) (due-distinct r k L q a (now .state) (now .ledgers)) e in
       let hi = ltb-true i r there in
       let is : c ≡ q = eqb-true c q (sym (making-belongs m i q c turns) ∙ own) in
-      let size : message-size r m i (alone .ledgers c) ≡ message-size r m i (now .ledgers c) = rw is (same-size q turns (run-cards now) (run-cards alone) b m i) in
+      let size : message-size r m i c (alone .ledgers c) ≡ message-size r m i c (now .ledgers c) = rw is (same-size q turns (run-cards now) (run-cards alone) b m i) in
       let used = less-used i hi in
       let fits = leb-true _ L room in
       all-accepts (λ n. n) 0 (due-checks r k L q a (alone .state) (alone .ledgers))

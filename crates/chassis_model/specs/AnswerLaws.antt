@@ -48,7 +48,7 @@ module _ {r k L : ℕ} (now : RunAt r k L) (any : ℕ) where
       let a = Make m i q in
       let N = N-in now i i in
       let used = free-in now i in
-      let size = message-size r m i (now .ledgers q) in
+      let size = message-size r m i q (now .ledgers q) in
       let log = log-in now i in
       let there = lt-ltb i r hi in
       let inside : used ≤ length log = ends-within N log in

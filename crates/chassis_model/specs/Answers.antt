@@ -6,26 +6,33 @@ use mathlib.Core.Bool.{Bool, false, not, _&&_, _||_}
 use lib.Dec.{leb, ltb, eqb}
 use Rattle.protocol.specs.Checks.{Check, or-else, first-failing}
 use Rattle.protocol.specs.Limits.{MAX, bad-card, bad-kind, bad-counter, exhausted, nothing-waiting, log-full}
+use Rattle.protocol.specs.Ledger as ledger
 use Rattle.protocol.specs.Ledger.{Ledger, holds, link-waits}
 use Rattle.protocol.specs.Functions.{count-below}
 use Rattle.wire.specs.Message.{increment-length, clear-length}
-use Rattle.chassis_model.specs.Run.{Step, Making, Count, Clear, Action, Make, Deliver, Nothing, action-of, State, StepAnswer, answered, N-at, free-from, fresh-replicas}
+use Rattle.chassis_model.specs.Run.{Step, Making, Action, Make, Deliver, Nothing, action-of, State, StepAnswer, answered, N-at, free-from, fresh-replicas}
+use Rattle.chassis_model.specs.Ledger.{ledger-action}
 
 -- "All replicas begin fresh.": the state in which a run begins
 abbrev pub fresh-state : ℕ → ℕ → ℕ → List ℕ → State
 fresh-state r k L logs = record { words = fresh-replicas r k r; logs = logs }
 
--- "36 bytes", "28 + 20e bytes": of a clear by card i, e is the number of holding cards of the counter's ledger l
-abbrev pub message-size : ℕ → Making → ℕ → Ledger → ℕ
-message-size r Count i l = increment-length
-message-size r Clear i l = clear-length (count-below r (λ j. holds i j l))
+-- "36 bytes", "28 + 20e bytes": how long the message of a step is that the ledger knows as a count or a clear, where e cards hold
+unfoldable pub step-size : ledger.Step → ℕ → ℕ
+step-size (ledger.count i q w) e = increment-length
+step-size (ledger.clear i q) e = clear-length e
+step-size (ledger.deliver i s) e = 0
+
+-- of a message that card i makes on counter q, e is the number of holding cards of that counter's ledger l
+abbrev pub message-size : ℕ → Making → ℕ → ℕ → Ledger → ℕ
+message-size r m i q l = step-size (ledger-action (Make m i q)) (count-below r (λ j. holds i j l))
 
 -- "12, 7 (any card named not below r), 3 (not for deliver), 4, 14, 13". The ledgers are those of every counter, and any of them
 -- (`any`) tells whether the link has something to hand over.
 abbrev pub due-checks : ℕ → ℕ → ℕ → ℕ → Action → State → (ℕ → Ledger) → List Check
 due-checks r k L any (Make m i q) st ls =
     or-else (ltb i r) bad-card ∷ or-else (ltb q k) bad-counter ∷ or-else (not (eqb (N-at r k L st i i) MAX)) exhausted
-    ∷ or-else (leb (free-from r k L st i + message-size r m i (ls q)) L) log-full ∷ []
+    ∷ or-else (leb (free-from r k L st i + message-size r m i q (ls q)) L) log-full ∷ []
 due-checks r k L any (Deliver i s) st ls = or-else (ltb i r && ltb s r && not (eqb i s)) bad-card ∷ or-else (link-waits i s (ls any)) nothing-waiting ∷ []
 due-checks r k L any Nothing st ls = or-else false bad-kind ∷ []
 

@@ -48,7 +48,7 @@ module _ {r k : ℕ} (q : ℕ) (turns : Turns) (now alone : DriverAt r k) (b : C
       let e = sym (call-number now a tt) ∙ ok in
       let (there, (counter, (more, (room, _)))) = first-passes (number-checks r k a (now .state) (now .ledgers)) (number-distinct r k a (now .state) (now .ledgers)) e in
       let hi = ltb-true i r there in
-      let size : message-size r m i (alone .ledgers c) ≡ message-size r m i (now .ledgers c) = rw is (same-size q turns (driver-cards now) (driver-cards alone) b m i) in
+      let size : message-size r m i c (alone .ledgers c) ≡ message-size r m i c (now .ledgers c) = rw is (same-size q turns (driver-cards now) (driver-cards alone) b m i) in
       call-number alone a tt
       ∙ all-accepts (λ n. n) 0 (number-checks r k a (alone .state) (alone .ledgers))
       (there, (counter, (more-left q turns (driver-cards now) (driver-cards alone) b i hi more, (rw size room, tt))))

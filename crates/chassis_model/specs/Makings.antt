@@ -1,23 +1,17 @@
 -- LAWS. What a making is (`IsMaking`): the step of the ledger, and so the message, that it is; the call that sends that message; and its length. Each making has
 -- an instance here. All that is known of makings besides follows from these facts, and no law outside this file tells one making from another.
-use Prim.Native.Nat.{ℕ, zero, suc, _≤_, _<_}
+use Prim.Native.Nat.{ℕ, _<_}
 use mathlib.Core.Path.{_≡_, refl}
-use mathlib.Core.Bool.{Bool, true, false, cond}
-use mathlib.Core.List.{List, [], _∷_, _++_}
+use mathlib.Core.Bool.{true}
+use mathlib.Core.List.{List}
 use native.Mathlib.Omega.{arith}
 use lib.Dec.{eqb}
 use borrow.Author.Tests.{lt-ltb}
-use Rattle.protocol.specs.declared.Entry.{Entry}
-use Rattle.protocol.specs.declared.ClearEntry.{ClearEntry}
-use Rattle.protocol.specs.Entry.{present}
 use Rattle.protocol.specs.Ledger as ledger
-use Rattle.protocol.specs.Ledger.{Ledger, holds}
-use Rattle.protocol.specs.Chassis.{Message, Replica, Chassis, no-message, count-message, present-entries, clear-message, issued, done, enabled}
+use Rattle.protocol.specs.Chassis.{Message, Replica, Chassis, no-message, count-message, clear-message, issued, done, enabled}
 use Rattle.protocol.specs.Alone.{Turns, step-counter, belongs-by-turns}
-use Rattle.protocol.specs.StoreLaws.{Shows, CardsBelow, shown, count-shown, clear-shown}
-use Rattle.protocol.specs.Functions.{count-below}
+use Rattle.protocol.specs.StoreLaws.{Shows, shown, count-shown, clear-shown}
 use Rattle.protocol.specs.Checks.{Decided}
-use Rattle.wire.specs.Message.{increment-length, clear-length}
 use Rattle.replica_model.specs.Layout.{cards, own-card, layout}
 use Rattle.replica_model.specs.Calls.{state, not-sent, send-checks, sent-with, holders}
 use Rattle.replica_model.specs.ClaimTerms.{sent-as, Writable, Isolates}
@@ -28,7 +22,7 @@ use Rattle.replica_model.specs.Claims.{count-isolates, clear-isolates}
 use Rattle.replica_model.specs.Format.{format-1}
 use Rattle.chassis_model.specs.Run.{Making, Count, Clear, Make, call-of}
 use Rattle.chassis_model.specs.Ledger.{ledger-action}
-use Rattle.chassis_model.specs.Answers.{message-size}
+use Rattle.chassis_model.specs.Answers.{step-size}
 use Rattle.chassis_model.specs.Numbered.{Sendable}
 use Rattle.chassis_model.specs.InStep.{Heads}
 
@@ -37,12 +31,6 @@ unfoldable pub step-message : ℕ → ledger.Step → Replica → Message
 step-message r (ledger.count i q w) b = count-message i q w b
 step-message r (ledger.clear i q) b = clear-message r q b
 step-message r (ledger.deliver i s) b = no-message
-
--- how long it is, where e cards hold
-unfoldable pub step-size : ledger.Step → ℕ → ℕ
-step-size (ledger.count i q w) e = increment-length
-step-size (ledger.clear i q) e = clear-length e
-step-size (ledger.deliver i s) e = 0
 
 -- the message that card i makes on counter q; the one that the words' own card makes, and its length
 abbrev pub message-of : Making → ℕ → ℕ → ℕ → Replica → Message
@@ -60,8 +48,6 @@ pub record IsMaking (m : Making) : Type 1 where
   -- its call has the checks of every call that sends, and sends that step's message
   pub decided : (q : ℕ) (b out : List ℕ)
       → Decided (λ o. o .answer .number) (λ n. not-sent n b out) (send-checks b q out (own-size m b q)) (sent-with format-1 b out (own-message m b q)) (call-of m q b out)
-  -- the length that the counter's ledger gives it
-  pub size-told : (r i q : ℕ) (l : Ledger) → message-size r m i l ≡ step-size (ledger-action (Make m i q)) (count-below r (λ j. holds i j l))
   -- the call leaves other counters
   pub isolates : (q : ℕ) (b out : List ℕ) → Isolates b q (call-of m q b out .words)
 
@@ -70,7 +56,6 @@ unfolding call-of ledger-action step-message step-size
 is-count = record {
   as-step = λ P counts clears. counts;
   decided = λ q b out. count-decided b q out;
-  size-told = λ r i q l. refl;
   isolates = λ q b out. count-isolates b q out;
 }
 
@@ -79,7 +64,6 @@ unfolding call-of ledger-action step-message step-size
 is-clear = record {
   as-step = λ P counts clears. clears;
   decided = λ q b out. clear-decided b q out;
-  size-told = λ r i q l. refl;
   isolates = λ q b out. clear-isolates b q out;
 }
 

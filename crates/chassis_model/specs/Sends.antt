@@ -22,12 +22,12 @@ use Rattle.replica_model.specs.RowLaws.{right-from, row-from}
 use Rattle.replica_model.specs.Format.{on-wire, size-of, format-1}
 use Rattle.chassis_model.specs.Run.{Making, Make, call-of}
 use Rattle.chassis_model.specs.Ledger.{ledger-action}
-use Rattle.chassis_model.specs.Answers.{message-size}
+use Rattle.chassis_model.specs.Answers.{message-size, step-size}
 use Rattle.chassis_model.specs.LogLaws.{Readable}
 use Rattle.chassis_model.specs.Numbered.{Sendable}
 use Rattle.chassis_model.specs.InStep.{CardsShow, CardsAt, reached-right, reached-row, reached-N}
 use Rattle.chassis_model.specs.Moves.{issued-cards-show}
-use Rattle.chassis_model.specs.Makings.{message-of, own-message, own-size, step-size, making, message-sendable, message-writable, message-shown}
+use Rattle.chassis_model.specs.Makings.{message-of, own-message, own-size, making, message-sendable, message-writable, message-shown}
 use Rattle.chassis_model.specs.Reads.{holders-counted}
 
 -- what is known of a message x that card i, with the words b, may send next
@@ -62,13 +62,12 @@ module _ {r k : ℕ} (now : CardsAt r k) (m : Making) (i q : ℕ) (hi : i < r) w
 
   module _ (hq : q < k) where
     -- the size of the words' message is the ledger's
-    own-told : own-size m b q ≡ message-size r m i (now .ledgers q)
+    own-told : own-size m b q ≡ message-size r m i q (now .ledgers q)
     own-told =
         rw (now .in-step .cards-show .heads i hi .own-is) (ap (step-size (ledger-action (Make m i q))) (holders-counted now i q hi hq))
-        ∙ sym (making m .size-told r i q (now .ledgers q))
 
     module _ (few : N < MAX) where
-      writable : Writable (on-wire i (N + 1) (next-message r (now .chassis) m i q)) (message-size r m i (now .ledgers q))
+      writable : Writable (on-wire i (N + 1) (next-message r (now .chassis) m i q)) (message-size r m i q (now .ledgers q))
       writable =
           let on = now .in-step .cards-show .heads i hi in
           rw (own-told, message-shown m r k i q b (now .chassis .replica i) on (now .in-step .cards-show .shows i hi) hi hq, on .own-is, on .cards-are) at
@@ -87,20 +86,20 @@ module _ {r k : ℕ} (now : CardsAt r k) (m : Making) (i q : ℕ) (hi : i < r) w
       }
 
       -- and so is that of the theory's
-      pub size-is : message-length (on-wire i (N + 1) (next-message r (now .chassis) m i q)) ≡ message-size r m i (now .ledgers q)
+      pub size-is : message-length (on-wire i (N + 1) (next-message r (now .chassis) m i q)) ≡ message-size r m i q (now .ledgers q)
       size-is = sym (message-bytes-length (on-wire i (N + 1) (next-message r (now .chassis) m i q))) ∙ writable .long
 
   -- one of four things comes of the call
   pub call-cases : (P : SendOutcome → Type 0) (out : List ℕ)
       → (k ≤ q → P (not-sent bad-counter b out))
       → (q < k → N ≡ MAX → P (not-sent exhausted b out))
-      → (q < k → N < MAX → length out < message-size r m i (now .ledgers q) → P (not-sent short-output b out))
-      → (q < k → Outgoing r k i b (next-message r (now .chassis) m i q) → message-size r m i (now .ledgers q) ≤ length out → P (sent-outcome r i b out (next-message r (now .chassis) m i q)))
+      → (q < k → N < MAX → length out < message-size r m i q (now .ledgers q) → P (not-sent short-output b out))
+      → (q < k → Outgoing r k i b (next-message r (now .chassis) m i q) → message-size r m i q (now .ledgers q) ≤ length out → P (sent-outcome r i b out (next-message r (now .chassis) m i q)))
       → P (call-of m q b out)
   call-cases P out three four five sends =
       let on = now .in-step .cards-show .heads i hi in
       let d = making m .decided q b out in
-      let size = message-size r m i (now .ledgers q) in
+      let size = message-size r m i q (now .ledgers q) in
       let right = right-from b (reached-right now i hi) in
       by-le (suc q) k
       (λ hq.

@@ -56,7 +56,7 @@ implausible = 10
 abbrev pub bad-sizes : ℕ
 bad-sizes = 11
 
--- "Step kind not 1, 2 or 3"
+-- "No such step kind"
 abbrev pub bad-kind : ℕ
 bad-kind = 12
 

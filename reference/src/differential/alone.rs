@@ -118,12 +118,12 @@ impl List {
             let (first, second) = (step.first as usize, step.second as usize);
             belongs.push(match step.kind {
                 _ if *answer != OK => None,
-                STEP_COUNT | STEP_CLEAR => Some(second),
-                _ => {
+                STEP_DELIVER => {
                     let at = &mut received[first][second];
                     *at += 1;
                     Some(messages[second][*at - 1].counter as usize)
                 }
+                _ => Some(second),
             });
         }
         belongs
