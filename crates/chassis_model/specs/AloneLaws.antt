@@ -6,12 +6,12 @@ use mathlib.Core.Bool.{true, not}
 use mathlib.Core.List.{List, [], _∷_, map}
 use native.Mathlib.Omega.{arith}
 use lib.ListN.{length, length-append, length-map}
-use lib.Dec.{eqb}
+use lib.Dec.{eqb, leb}
 use borrow.Author.Tests.{ltb-true, leb-true, le-leb, eq-eqb, ne-eqb, eqb-true, eqb-false, not-true}
-use Rattle.protocol.specs.Limits.{MAX}
+use Rattle.protocol.specs.Limits.{MAX, log-full}
 use Rattle.protocol.specs.Cases.{by-place, by-test}
-use Rattle.protocol.specs.Checks.{first-failing}
-use Rattle.protocol.specs.ChecksLaws.{first-passes, all-accepts}
+use Rattle.protocol.specs.Checks.{or-else, first-failing, AllPass}
+use Rattle.protocol.specs.ChecksLaws.{first-passes, all-accepts, all-first, all-second, all-append}
 use Rattle.protocol.specs.Chassis.{Message, increment, clearing}
 use Rattle.protocol.specs.Alone as queues
 use Rattle.protocol.specs.Alone.{Turns, no-turns, belongs-by-turns, outline, room}
@@ -20,7 +20,7 @@ use Rattle.protocol.specs.AloneRuns.{RunsBeside, fresh-beside, own-done, other-
 use Rattle.protocol.specs.AcceptanceLaws.{count-cong}
 use Rattle.wire.specs.Message.{clear-length, message-bytes}
 use Rattle.replica_model.specs.Layout.{replica-length, N-of}
-use Rattle.replica_model.specs.Calls.{read-on}
+use Rattle.replica_model.specs.Calls.{left-checks, read-on}
 use Rattle.replica_model.specs.Format.{on-wire, size-of}
 use Rattle.replica_model.specs.FormatLaws.{on-wire-length}
 use Rattle.chassis_model.specs.LogLaws.{log-bytes, free-place}
@@ -31,7 +31,7 @@ use Rattle.chassis_model.specs.Ledger.{ledger-action, ledger-step, accep
 use Rattle.chassis_model.specs.Alone.{own-steps}
 use Rattle.chassis_model.specs.AloneQueues.{queued-steps, own-steps-are}
 use Rattle.chassis_model.specs.InStep.{CardsAt, reached-N, own-N}
-use Rattle.chassis_model.specs.Matches.{RunAt, run-at, run-cards, log-in, free-in}
+use Rattle.chassis_model.specs.Matches.{RunAt, run-at, run-cards, log-in, N-in, free-in}
 use Rattle.chassis_model.specs.Makings.{making, making-belongs}
 use Rattle.chassis_model.specs.StepLaws.{accepted-enabled, accepted-leaves, declined-leaves}
 use Rattle.chassis_model.specs.AnswerLaws.{due-distinct, action-due}
@@ -84,8 +84,8 @@ same-reads-beside {r} q turns now alone b i hi hq =
 
 -- a card that has messages left has some left there
 pub more-left : {r k : ℕ} (q : ℕ) (turns : Turns) (now alone : CardsAt r k) → CardsBeside q turns now alone
-    → (i : ℕ) → i < r → not (eqb (N-of r (now .replicas i) i) MAX) ≡ true → not (eqb (N-of r (alone .replicas i) i) MAX) ≡ true
-more-left {r} q turns now alone b i hi some =
+    → (i : ℕ) → i < r → AllPass (left-checks (N-of r (now .replicas i) i)) → AllPass (left-checks (N-of r (alone .replicas i) i))
+more-left {r} q turns now alone b i hi (some, _) =
     let w = room-within (λ m. 1) (λ m. refl) q (now .chassis .log i) (alone .chassis .log i) (b .logs i) in
     let x = room-ones (now .chassis .log i) in
     let y = room-ones (alone .chassis .log i) in
@@ -94,7 +94,7 @@ more-left {r} q turns now alone b i hi some =
     let n′ = own-N alone i hi in
     let few = now .in-step .cards-show .few i hi in
     let d = eqb-false (N-of r (now .replicas i) i) MAX (not-true _ some) in
-    ap not (ne-eqb (N-of r (alone .replicas i) i) MAX (λ e. d (omega arith)))
+    (ap not (ne-eqb (N-of r (alone .replicas i) i) MAX (λ e. d (omega arith))), tt)
 
 -- ---- a step of q that the first run accepts
 
@@ -113,14 +113,16 @@ module _ {r k L : ℕ} (q : ℕ) (turns : Turns) (now alone : RunAt r k L) (b : 
   make-too : (m : Making) (i c : ℕ) → AcceptedToo (Make m i c)
   make-too m i c e own =
       let a = Make m i c in
-      let (there, (counter, (more, (room, _)))) = first-passes (due-checks r k L q a (now .state) (now .ledgers)) (due-distinct r k L q a (now .state) (now .ledgers)) e in
+      let (there, (counter, rest)) = first-passes (due-checks r k L q a (now .state) (now .ledgers)) (due-distinct r k L q a (now .state) (now .ledgers)) e in
       let hi = ltb-true i r there in
       let is : c ≡ q = eqb-true c q (sym (making-belongs m i q c turns) ∙ own) in
       let size : message-size r m i c (alone .ledgers c) ≡ message-size r m i c (now .ledgers c) = rw is (same-size q turns (run-cards now) (run-cards alone) b m i) in
       let used = less-used i hi in
-      let fits = leb-true _ L room in
+      let last = or-else (leb (free-in now i + message-size r m i c (now .ledgers c)) L) log-full ∷ [] in
+      let fits = leb-true _ L (all-second (left-checks (N-in now i i)) last rest .0) in
+      let more = more-left q turns (run-cards now) (run-cards alone) b i hi (all-first (left-checks (N-in now i i)) last rest) in
       all-accepts (λ n. n) 0 (due-checks r k L q a (alone .state) (alone .ledgers))
-      (there, (counter, (more-left q turns (run-cards now) (run-cards alone) b i hi more, (le-leb _ L (omega arith), tt))))
+      (there, (counter, all-append (left-checks (N-in alone i i)) (or-else (leb (free-in alone i + message-size r m i c (alone .ledgers c)) L) log-full ∷ []) more (le-leb _ L (omega arith), tt)))
 
   deliver-too : (i s : ℕ) → AcceptedToo (Deliver i s)
   unfolding ledger-action belongs-by-turns

@@ -5,9 +5,9 @@ use mathlib.Core.Bool.{true, not, _&&_}
 use mathlib.Core.List.{List, [], _∷_, _++_}
 use native.Mathlib.Omega.{arith}
 use lib.ListN.{length, getD, drop, length-drop}
-use lib.Dec.{ltb, eqb}
-use borrow.Author.Tests.{lt-ltb, le-ltb, le-leb, lt-leb, eq-eqb, ne-eqb}
-use Rattle.protocol.specs.Limits.{MAX, bad-card, bad-kind, bad-counter, exhausted, nothing-waiting, log-full}
+use lib.Dec.{leb, ltb, eqb}
+use borrow.Author.Tests.{lt-ltb, le-ltb, le-leb, lt-leb}
+use Rattle.protocol.specs.Limits.{bad-card, bad-kind, nothing-waiting}
 use Rattle.protocol.specs.Cases.{by-le, by-test}
 use Rattle.protocol.specs.Checks.{first-failing, Gives}
 use Rattle.protocol.specs.ChecksLaws.{distinct, first-is, first-among}
@@ -20,7 +20,7 @@ use Rattle.chassis_model.specs.Answers.{message-size, due-checks, due-an
 use Rattle.chassis_model.specs.InStep.{reached-N}
 use Rattle.chassis_model.specs.Matches.{RunAt, run-cards, log-in, N-in, free-in}
 use Rattle.chassis_model.specs.StepLaws.{is-link, performed-is, declined-is, link-passes}
-use Rattle.chassis_model.specs.MadeSteps.{made-cases}
+use Rattle.chassis_model.specs.MadeSteps.{told-step, made-cases}
 use Rattle.chassis_model.specs.DeliveredSteps.{one-delivered}
 use Rattle.chassis_model.specs.Ends.{ends-within}
 
@@ -54,13 +54,13 @@ module _ {r k L : ℕ} (now : RunAt r k L) (any : ℕ) where
       let inside : used ≤ length log = ends-within N log in
       let long : length log ≡ L = part-length r L i (now .state .logs) (now .matches .logs-fit) hi in
       let left : length (drop used log) ≡ length log - used = length-drop used log in
+      let same : leb (used + size) L ≡ leb size (length (drop used log))
+      = by-le size (length (drop used log)) (λ l. rw (le-leb size (length (drop used log)) l) (le-leb (used + size) L (omega arith)))
+      (λ l. rw (lt-leb size (length (drop used log)) l) (lt-leb (used + size) L (omega arith))) in
+      let is : told-step now m i q hi ≡ due a = rw (there, same) in
       made-cases now m i q hi (λ stepped. stepped .answer .number ≡ due a)
-      (λ far. due-is a bad-counter (there, le-ltb q k far))
-      (λ hq all. due-is a exhausted (there, (lt-ltb q k hq, rw (eq-eqb N MAX all))))
-      (λ hq few short. due-is a log-full (there, (lt-ltb q k hq, (rw (ne-eqb N MAX (λ e. omega arith)), lt-leb (used + size) L (omega arith)))))
-      (λ hq goes room.
-      let few = goes .few in
-      due-is a 0 (there, (lt-ltb q k hq, (rw (ne-eqb N MAX (λ e. omega arith)), (le-leb (used + size) L (omega arith), refl)))))
+      (λ n some told. told ∙ is)
+      (λ told hq goes room. told ∙ is)
 
   make-due : (m : Making) (i q : ℕ) → acted r k L (Make m i q) (now .state) .answer .number ≡ due (Make m i q)
   make-due m i q =

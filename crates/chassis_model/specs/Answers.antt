@@ -1,15 +1,16 @@
 -- DEFINITIONS. What a step of a run answers, with no call named: "Run steps: 12, 7 (any card named not below r), 3 (not for deliver), 4, 14, 13".
 -- Of the words and bytes only two numbers are looked at, both of the card that makes a message: how many it has made, and how many bytes of its log they take.
 use Prim.Native.Nat.{ℕ, _+_}
-use mathlib.Core.List.{List, [], _∷_}
+use mathlib.Core.List.{List, [], _∷_, _++_}
 use mathlib.Core.Bool.{Bool, false, not, _&&_, _||_}
 use lib.Dec.{leb, ltb, eqb}
 use Rattle.protocol.specs.Checks.{Check, or-else, first-failing}
-use Rattle.protocol.specs.Limits.{MAX, bad-card, bad-kind, bad-counter, exhausted, nothing-waiting, log-full}
+use Rattle.protocol.specs.Limits.{bad-card, bad-kind, bad-counter, exhausted, nothing-waiting, log-full}
 use Rattle.protocol.specs.Ledger as ledger
 use Rattle.protocol.specs.Ledger.{Ledger, holds, link-waits}
 use Rattle.protocol.specs.Functions.{count-below}
 use Rattle.wire.specs.Message.{increment-length, clear-length}
+use Rattle.replica_model.specs.Calls.{left-checks}
 use Rattle.chassis_model.specs.Run.{Step, Making, Action, Make, Deliver, Nothing, action-of, State, StepAnswer, answered, N-at, free-from, fresh-replicas}
 use Rattle.chassis_model.specs.Ledger.{ledger-action}
 
@@ -27,12 +28,15 @@ step-size (ledger.deliver i s) e = 0
 abbrev pub message-size : ℕ → Making → ℕ → ℕ → Ledger → ℕ
 message-size r m i q l = step-size (ledger-action (Make m i q)) (count-below r (λ j. holds i j l))
 
+-- 3, and then 4, of a card that is there and has made N messages; and then the number `full` where the message has no room
+abbrev pub maker-checks : ℕ → ℕ → ℕ → Bool → ℕ → List Check
+maker-checks k q N room full = or-else (ltb q k) bad-counter ∷ left-checks N ++ (or-else room full ∷ [])
+
 -- "12, 7 (any card named not below r), 3 (not for deliver), 4, 14, 13". The ledgers are those of every counter, and any of them
 -- (`any`) tells whether the link has something to hand over.
 abbrev pub due-checks : ℕ → ℕ → ℕ → ℕ → Action → State → (ℕ → Ledger) → List Check
 due-checks r k L any (Make m i q) st ls =
-    or-else (ltb i r) bad-card ∷ or-else (ltb q k) bad-counter ∷ or-else (not (eqb (N-at r k L st i i) MAX)) exhausted
-    ∷ or-else (leb (free-from r k L st i + message-size r m i q (ls q)) L) log-full ∷ []
+    or-else (ltb i r) bad-card ∷ maker-checks k q (N-at r k L st i i) (leb (free-from r k L st i + message-size r m i q (ls q)) L) log-full
 due-checks r k L any (Deliver i s) st ls = or-else (ltb i r && ltb s r && not (eqb i s)) bad-card ∷ or-else (link-waits i s (ls any)) nothing-waiting ∷ []
 due-checks r k L any Nothing st ls = or-else false bad-kind ∷ []
 

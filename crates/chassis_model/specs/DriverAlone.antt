@@ -9,7 +9,10 @@ use native.Mathlib.Omega.{arith}
 use lib.ListN.{length, getD}
 use borrow.Author.Tests.{ltb-true, eq-eqb, ne-eqb, eqb-true}
 use Rattle.protocol.specs.Cases.{by-place, by-test}
-use Rattle.protocol.specs.ChecksLaws.{first-passes, all-accepts}
+use lib.Dec.{leb}
+use Rattle.protocol.specs.Limits.{short-output}
+use Rattle.protocol.specs.Checks.{Check, or-else}
+use Rattle.protocol.specs.ChecksLaws.{first-passes, all-accepts, all-first, all-second, all-append}
 use Rattle.protocol.specs.Ledger as ledger
 use Rattle.protocol.specs.Ledger.{after-accepted}
 use Rattle.protocol.specs.Chassis.{done}
@@ -19,7 +22,7 @@ use Rattle.protocol.specs.Alone.{Turns, no-turns, belongs-by-turns}
 use Rattle.protocol.specs.AloneRuns.{fresh-beside, own-enabled, own-done, other-done}
 use Rattle.wire.specs.Message.{message-at}
 use Rattle.replica_model.specs.Layout.{N-of}
-use Rattle.replica_model.specs.Calls.{sizes-in-range, read-on}
+use Rattle.replica_model.specs.Calls.{sizes-in-range, left-checks, read-on}
 use Rattle.replica_model.specs.RowLaws.{sizes}
 use Rattle.chassis_model.specs.Run.{Making}
 use Rattle.chassis_model.specs.Answers.{message-size}
@@ -46,12 +49,15 @@ module _ {r k : ℕ} (q : ℕ) (turns : Turns) (now alone : DriverAt r k) (b : C
   make-again m i c out ok is =
       let a = make m i c out in
       let e = sym (call-number now a tt) ∙ ok in
-      let (there, (counter, (more, (room, _)))) = first-passes (number-checks r k a (now .state) (now .ledgers)) (number-distinct r k a (now .state) (now .ledgers)) e in
+      let (there, (counter, rest)) = first-passes (number-checks r k a (now .state) (now .ledgers)) (number-distinct r k a (now .state) (now .ledgers)) e in
       let hi = ltb-true i r there in
       let size : message-size r m i c (alone .ledgers c) ≡ message-size r m i c (now .ledgers c) = rw is (same-size q turns (driver-cards now) (driver-cards alone) b m i) in
+      let left = left-checks (N-of r (now .state .words i) i) in
+      let last = or-else (leb (message-size r m i c (now .ledgers c)) (length out)) short-output ∷ [] in
+      let more = more-left q turns (driver-cards now) (driver-cards alone) b i hi (all-first left last rest) in
       call-number alone a tt
       ∙ all-accepts (λ n. n) 0 (number-checks r k a (alone .state) (alone .ledgers))
-      (there, (counter, (more-left q turns (driver-cards now) (driver-cards alone) b i hi more, (rw size room, tt))))
+      (there, (counter, all-append (left-checks (N-of r (alone .state .words i) i)) (or-else (leb (message-size r m i c (alone .ledgers c)) (length out)) short-output ∷ []) more (rw size (all-second left last rest .0), tt)))
 
   take-again : (i : ℕ) (bytes : List ℕ) → GenuineCall (take i bytes) (now .state) → number-of (take i bytes) (now .state) ≡ 0
       → belongs-by-turns q (ledger.deliver i (message-at bytes .sender)) turns ≡ true → Again r (take i bytes) (alone .state)

@@ -1,32 +1,36 @@
 -- LAWS. A step of a reached state that makes a message: one of four things comes of the call (3, 4, 5 or a message sent), so the step answers 3, 4 or 14
 -- and leaves all as it was, or answers 0 and leaves the state with the message made, which is the chassis's with that message issued.
 use Prim.Native.Nat.{ℕ, _+_, _-_, _*_, _≤_, _<_}
-use mathlib.Core.Path.{_≡_, sym, _∙_}
+use mathlib.Core.Path.{_≡_, refl, sym, ap, _∙_}
+use mathlib.Core.Logic.{_≢_}
 use mathlib.Core.Bool.{cond}
 use mathlib.Core.List.{List, [], _∷_, _++_}
 use native.Mathlib.Omega.{arith}
 use lib.ListN.{length, take, drop, length-append, length-take, length-drop, take-append-drop}
-use lib.Dec.{eqb}
-use Rattle.protocol.specs.Limits.{MAX, bad-counter, exhausted, short-output, log-full}
+use lib.Dec.{eqb, ltb, leb}
+use borrow.Author.Tests.{ne-eqb}
+use Rattle.protocol.specs.Limits.{bad-counter, short-output, log-full}
 use Rattle.protocol.specs.Cases.{by-place}
+use Rattle.protocol.specs.Checks.{or-else, first-failing}
+use Rattle.protocol.specs.ChecksLaws.{last-renamed}
 use Rattle.protocol.specs.Tables.{put, put-same, put-other}
 use Rattle.protocol.specs.Chassis.{Message, issued}
 use Rattle.wire.specs.declared.Message as wire
 use Rattle.wire.specs.Message.{message-bytes, message-length}
 use Rattle.wire.specs.Claims.{message-bytes-length}
 use Rattle.replica_model.specs.Layout.{replica-length}
-use Rattle.replica_model.specs.Calls.{SendOutcome, not-sent, words-after}
+use Rattle.replica_model.specs.Calls.{SendOutcome, left-checks, not-sent, words-after}
 use Rattle.replica_model.specs.Format.{on-wire}
 use Rattle.chassis_model.specs.ListParts.{put-part}
 use Rattle.chassis_model.specs.ListPartsLaws.{part-length, put-part-same, put-part-length, part-put}
 use Rattle.chassis_model.specs.Run.{Making, call-of, State, Stepped, answered, declined, replica-of, log-of, free-from, made}
-use Rattle.chassis_model.specs.Answers.{message-size}
+use Rattle.chassis_model.specs.Answers.{message-size, maker-checks}
 use Rattle.chassis_model.specs.Log.{end-of}
 use Rattle.chassis_model.specs.LogLaws.{Readable, AllReadable, written, written-log}
 use Rattle.chassis_model.specs.Numbered.{wire-log, wire-log-append, length-numbered}
 use Rattle.chassis_model.specs.InStep.{CardsShow, own-N}
 use Rattle.chassis_model.specs.Matches.{Holds, RunAt, run-cards, words-in, log-in, N-in, free-in, room-in, put-words-fit, put-words-show}
-use Rattle.chassis_model.specs.Sends.{Outgoing, next-message, call-cases, issued-here}
+use Rattle.chassis_model.specs.Sends.{Outgoing, next-message, told, call-cases, issued-here}
 
 -- ---- one log: a message goes to its end
 
@@ -36,6 +40,13 @@ holds-more log ms x n e h all good =
     rw e (record { rest = drop (length (message-bytes x)) (h .rest); bytes = written-log ms (h .rest) log (h .bytes) all x good })
 
 -- ---- the step
+
+-- a call's number as a step's
+abbrev pub step-number : ℕ → ℕ
+step-number n = cond (eqb n short-output) log-full n
+
+number-some : (n : ℕ) → n ≢ 0 → step-number n ≢ 0
+number-some n some = by-place n short-output (λ e. rw e (λ z. omega arith)) (λ d. rw (ne-eqb n short-output d) some)
 
 module _ (r k L : ℕ) (st : State) (i : ℕ) where
   -- what the step makes of the call's outcome
@@ -75,21 +86,26 @@ module _ {r k L : ℕ} (now : RunAt r k L) (i : ℕ) (m : Message) where
   }
 
 module _ {r k L : ℕ} (now : RunAt r k L) (m : Making) (i q : ℕ) (hi : i < r) where
+  -- what the call's checks give a step
+  abbrev pub told-step : ℕ
+  told-step = first-failing (maker-checks k q (N-in now i i) (leb (message-size r m i q (now .ledgers q)) (length (room-in now i))) log-full)
+
+  step-told : (n : ℕ) → n ≡ told (run-cards now) m i q hi (length (room-in now i)) → step-number n ≡ told-step
+  step-told n is =
+      ap step-number is
+      ∙ last-renamed (or-else (ltb q k) bad-counter ∷ left-checks (N-in now i i)) (leb (message-size r m i q (now .ledgers q)) (length (room-in now i))) short-output log-full refl refl
+
   pub made-cases : (P : Stepped → Type 0)
-      → (k ≤ q → P (declined (now .state) bad-counter))
-      → (q < k → N-in now i i ≡ MAX → P (declined (now .state) exhausted))
-      → (q < k → N-in now i i < MAX → length (room-in now i) < message-size r m i q (now .ledgers q) → P (declined (now .state) log-full))
-      → (q < k → Outgoing r k i (words-in now i) (next-message r (now .chassis) m i q)
+      → ((n : ℕ) → n ≢ 0 → n ≡ told-step → P (declined (now .state) n))
+      → (0 ≡ told-step → q < k → Outgoing r k i (words-in now i) (next-message r (now .chassis) m i q)
       → message-size r m i q (now .ledgers q) ≤ length (room-in now i)
       → P (record { answer = answered 0; state = state-made now i (next-message r (now .chassis) m i q) }))
       → P (made r k L i (call-of m q) (now .state))
   unfolding made
-  made-cases P three four fourteen sends =
+  made-cases P refuses sends =
       call-cases (run-cards now) m i q hi (λ done. P (made-of r k L (now .state) i done)) (room-in now i)
-      (λ a. rw (declined-made r k L (now .state) i bad-counter) (three a))
-      (λ a b. rw (declined-made r k L (now .state) i exhausted) (four a b))
-      (λ a b c. rw (declined-made r k L (now .state) i short-output) (fourteen a b c))
-      sends
+      (λ n some is. rw (declined-made r k L (now .state) i n) (refuses (step-number n) (number-some n some) (step-told n is)))
+      (λ is. sends (step-told 0 is))
 
 -- ---- the state after a message is made
 

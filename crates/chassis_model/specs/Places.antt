@@ -6,7 +6,7 @@ use mathlib.Core.List.{List}
 use native.Mathlib.Omega.{arith}
 use lib.ListN.{length, getD, set, take, drop, replicate, length-set, length-drop, length-replicate, getD-replicate}
 use lib.Seq.{getD-set-same, getD-set-other, set-getD}
-use Rattle.protocol.specs.Limits.{most-cards, bad-counter, exhausted, short-output}
+use Rattle.protocol.specs.Limits.{most-cards}
 use Rattle.protocol.specs.Cases.{by-place}
 use Rattle.protocol.specs.Ledger.{Ledger}
 use Rattle.protocol.specs.Chassis.{Chassis}
@@ -125,10 +125,8 @@ module _ (r k L : ℕ) (st : State) (places : List ℕ) (h : Reached r k L st pl
     places-made : (m : Making) (q : ℕ) → PlacesAfter (call-of m q (replica-of r k L st i) (drop (free-from r k L st i) (log-of r k L st i)))
     places-made m q =
         call-cases (run-cards now) m i q hi PlacesAfter (drop (free-from r k L st i) (log-of r k L st i))
-        (λ _. places-declined bad-counter)
-        (λ _ _. places-declined exhausted)
-        (λ _ _ _. places-declined short-output)
-        (λ hq goes fits.
+        (λ n _ _. places-declined n)
+        (λ _ hq goes fits.
         let x = next-message r (h .chassis) m i q in
         let room = rw (← (size-is (run-cards now) m i q hi hq (goes .few))) at fits in
         rw (← (on-wire-size i (N-at r k L st i i + 1) x))

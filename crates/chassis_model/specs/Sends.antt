@@ -2,27 +2,29 @@
 -- theory's message, which can be read again and keeps to the limits, and its words are those of the chassis with that message issued.
 use Prim.Native.Nat.{ℕ, suc, _+_, _≤_, _<_}
 use mathlib.Core.Path.{_≡_, refl, sym, ap, _∙_}
-use mathlib.Core.Bool.{true, not}
-use mathlib.Core.List.{List}
+use mathlib.Core.Logic.{_≢_}
+use mathlib.Core.List.{List, [], _∷_}
 use native.Mathlib.Omega.{arith}
 use lib.ListN.{length}
-use lib.Dec.{eqb, ltb}
-use borrow.Author.Tests.{lt-ltb, le-ltb, le-leb, lt-leb, eq-eqb, ne-eqb}
-use Rattle.protocol.specs.Limits.{MAX, bad-counter, exhausted, short-output}
+use lib.Dec.{leb}
+use borrow.Author.Tests.{ltb-true, leb-true, le-ltb}
+use Rattle.protocol.specs.Limits.{MAX, short-output}
 use Rattle.protocol.specs.Cases.{by-place, by-le}
 use Rattle.protocol.specs.Tables.{put}
 use Rattle.protocol.specs.Chassis.{Message, Chassis, issued}
-use Rattle.protocol.specs.ChecksLaws.{refusal-given}
+use Rattle.protocol.specs.Checks.{or-else, first-failing}
+use Rattle.protocol.specs.ChecksLaws.{first-is, first-passes, all-second}
 use Rattle.wire.specs.Message.{message-bytes, message-length, over}
 use Rattle.wire.specs.Claims.{message-bytes-length}
 use Rattle.replica_model.specs.Layout.{cards, counters, own-card, N-of}
-use Rattle.replica_model.specs.Calls.{SendOutcome, not-sent, sent-with, words-after}
+use Rattle.replica_model.specs.Calls.{SendOutcome, left-checks, send-checks, not-sent, sent-with, words-after}
 use Rattle.replica_model.specs.ClaimTerms.{Writable}
 use Rattle.replica_model.specs.RowLaws.{right-from, row-from}
+use Rattle.replica_model.specs.AcceptedCalls.{sent-facts}
 use Rattle.replica_model.specs.Format.{on-wire, size-of, format-1}
 use Rattle.chassis_model.specs.Run.{Making, Make, call-of}
 use Rattle.chassis_model.specs.Ledger.{ledger-action}
-use Rattle.chassis_model.specs.Answers.{message-size, step-size}
+use Rattle.chassis_model.specs.Answers.{message-size, step-size, maker-checks}
 use Rattle.chassis_model.specs.LogLaws.{Readable}
 use Rattle.chassis_model.specs.Numbered.{Sendable}
 use Rattle.chassis_model.specs.InStep.{CardsShow, CardsAt, reached-right, reached-row, reached-N}
@@ -89,37 +91,41 @@ module _ {r k : ℕ} (now : CardsAt r k) (m : Making) (i q : ℕ) (hi : i < r) w
       pub size-is : message-length (on-wire i (N + 1) (next-message r (now .chassis) m i q)) ≡ message-size r m i q (now .ledgers q)
       size-is = sym (message-bytes-length (on-wire i (N + 1) (next-message r (now .chassis) m i q))) ∙ writable .long
 
-  -- one of four things comes of the call
+  -- the checks that are left of the call's, and what they give
+  abbrev pub told : ℕ → ℕ
+  told room = first-failing (maker-checks k q N (leb (message-size r m i q (now .ledgers q)) room) short-output)
+
+  call-told : (out : List ℕ) → call-of m q b out .answer .number ≡ told (length out)
+  call-told out =
+      let on = now .in-step .cards-show .heads i hi in
+      let right = right-from b (reached-right now i hi) in
+      let n = call-of m q b out .answer .number in
+      let first = first-is (send-checks b q out (own-size m b q)) refl n (making m .decided q b out .exact n .0 refl) in
+      let own : N-of (cards b) b (own-card b) ≡ N = rw (on .cards-are, on .own-is) in
+      by-le (suc q) k
+      (λ hq. sym first ∙ rw (right, on .counters-are, row-from b q (reached-row now i q hi hq), own, own-told hq))
+      (λ far. sym first ∙ rw (right, on .counters-are, le-ltb q k (omega arith)))
+
+  -- one of two things comes of the call
   pub call-cases : (P : SendOutcome → Type 0) (out : List ℕ)
-      → (k ≤ q → P (not-sent bad-counter b out))
-      → (q < k → N ≡ MAX → P (not-sent exhausted b out))
-      → (q < k → N < MAX → length out < message-size r m i q (now .ledgers q) → P (not-sent short-output b out))
-      → (q < k → Outgoing r k i b (next-message r (now .chassis) m i q) → message-size r m i q (now .ledgers q) ≤ length out → P (sent-outcome r i b out (next-message r (now .chassis) m i q)))
+      → ((n : ℕ) → n ≢ 0 → n ≡ told (length out) → P (not-sent n b out))
+      → (0 ≡ told (length out) → q < k → Outgoing r k i b (next-message r (now .chassis) m i q) → message-size r m i q (now .ledgers q) ≤ length out → P (sent-outcome r i b out (next-message r (now .chassis) m i q)))
       → P (call-of m q b out)
-  call-cases P out three four five sends =
+  call-cases P out refuses sends =
       let on = now .in-step .cards-show .heads i hi in
       let d = making m .decided q b out in
+      let n = call-of m q b out .answer .number in
       let size = message-size r m i q (now .ledgers q) in
-      let right = right-from b (reached-right now i hi) in
-      by-le (suc q) k
-      (λ hq.
-      let there : ltb q (counters b) ≡ true = rw (on .counters-are) (lt-ltb q k hq) in
-      let row = reached-row now i q hi hq in
-      let sound = row-from b q row in
-      let own : N-of (cards b) b (own-card b) ≡ N = rw (on .cards-are, on .own-is) in
-      by-place N MAX
-      (λ e. rw (refusal-given d exhausted (λ z. omega arith) (right, (there, (sound, rw (own, eq-eqb N MAX e))))) (four hq e))
+      by-place n 0
       (λ e.
-      let few : N < MAX = let top = rw (on .cards-are) at (row .N≤MAX i (rw (on .cards-are) hi)) in omega arith in
-      let more : not (eqb (N-of (cards b) b (own-card b)) MAX) ≡ true = rw (own, ne-eqb N MAX e) in
-      by-le size (length out)
-      (λ o.
-      let passes = d .exact 0 .1 (right, (there, (sound, (more, (rw (own-told hq) (le-leb size (length out) o), refl))))) in
-      rw (d .accepted passes, as-outcome b out (own-message m b q), message-shown m r k i q b (now .chassis .replica i) on (now .in-step .cards-show .shows i hi) hi hq, on .own-is, on .cards-are)
-      (sends hq (next-outgoing hq few) o))
-      (λ o.
-      rw (refusal-given d short-output (λ z. omega arith) (right, (there, (sound, (more, rw (own-told hq) (lt-leb size (length out) o)))))) (five hq few o))))
-      (λ l. rw (refusal-given d bad-counter (λ z. omega arith) (right, rw (on .counters-are) (le-ltb q k (omega arith)))) (three (omega arith)))
+      let none = sym e ∙ call-told out in
+      let (there, rest) = first-passes (maker-checks k q N (leb size (length out)) short-output) refl (sym none) in
+      let hq = ltb-true q k there in
+      let room = leb-true size (length out) (all-second (left-checks N) (or-else (leb size (length out)) short-output ∷ []) rest .0) in
+      let few : N < MAX = rw (on .cards-are, on .own-is) at (sent-facts b q out (own-size m b q) (d .exact 0 .0 e) .more) in
+      rw (d .accepted e, as-outcome b out (own-message m b q), message-shown m r k i q b (now .chassis .replica i) on (now .in-step .cards-show .shows i hi) hi hq, on .own-is, on .cards-are)
+      (sends none hq (next-outgoing hq few) room))
+      (λ some. rw (d .refused some) (refuses n some (call-told out)))
 
 -- ---- the words after a message is made
 

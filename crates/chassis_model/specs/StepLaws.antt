@@ -15,7 +15,6 @@ use Rattle.protocol.specs.RoundRobin.{IsLink}
 use Rattle.protocol.specs.Ledger.{after-step, after-accepted}
 use Rattle.protocol.specs.Chassis as protocol
 use Rattle.protocol.specs.Chassis.{done, enabled}
-use Rattle.protocol.specs.Limits.{bad-counter, exhausted, log-full}
 use Rattle.protocol.specs.Enabled.{deliverable}
 use Rattle.replica_model.specs.Layout.{replica-length}
 use Rattle.chassis_model.specs.Run.{Making, Action, Make, Deliver, Nothing, State, Stepped, answered, declined, replica-of, log-of, N-at, step-checks, performed, acted, Step, action-of, call-of, made, delivered, step-on}
@@ -110,10 +109,8 @@ module _ {r k L : ℕ} (now : RunAt r k L) where
   made-matches m i q hi =
       let a = Make m i q in
       made-cases now m i q hi (StepMatches now a)
-      (λ _. declined-matches now a bad-counter (λ e. omega arith))
-      (λ _ _. declined-matches now a exhausted (λ e. omega arith))
-      (λ _ _ _. declined-matches now a log-full (λ e. omega arith))
-      (λ hq goes fits.
+      (λ n some _. declined-matches now a n some)
+      (λ _ hq goes fits.
       let x = next-message r (now .chassis) m i q in
       let is = making-done m r i q (now .chassis) in
       let room = rw (← (size-is (run-cards now) m i q hi hq (goes .few))) at fits in

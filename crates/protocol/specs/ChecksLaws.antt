@@ -8,9 +8,9 @@ use mathlib.Core.List.{List, [], _∷_, _++_}
 use mathlib.Core.Bool.{Bool, true, false, not, cond, _&&_, and-eq-true-iff, false≢true, true≢false}
 use native.Mathlib.Omega.{arith}
 use lib.Dec.{eqb, ltb}
-use borrow.Author.Tests.{eqb-true, eqb-false, ltb-true, ne-eqb, not-true}
+use borrow.Author.Tests.{eqb-true, eqb-false, ltb-true, eq-eqb, ne-eqb, not-true}
 use Rattle.protocol.specs.Cases.{by-place, by-test, and-left, and-right}
-use Rattle.protocol.specs.Checks.{Check, checked, first-failing, AllPass, Gives, Decided}
+use Rattle.protocol.specs.Checks.{Check, or-else, checked, first-failing, AllPass, Gives, Decided}
 
 -- the numbers are not 0 and differ: a test that computes for each call's list
 abbrev apart : ℕ → List Check → Bool
@@ -104,6 +104,10 @@ pub all-first : (cs ds : List Check) → AllPass (cs ++ ds) → AllPass cs
 all-first [] ds h = tt
 all-first (c ∷ cs) ds h = (h .0, all-first cs ds (h .1))
 
+pub all-second : (cs ds : List Check) → AllPass (cs ++ ds) → AllPass ds
+all-second [] ds h = h
+all-second (c ∷ cs) ds h = all-second cs ds (h .1)
+
 -- accepted exactly where every check passes
 pub gives-passes : (cs : List Check) → distinct cs ≡ true → Gives cs 0 → AllPass cs
 gives-passes [] d h = tt
@@ -144,6 +148,14 @@ refusal-is refusal cs result d n some gives =
 abbrev every : (ℕ → Bool) → List Check → Bool
 every f [] = true
 every f (c ∷ cs) = f (c .number) && every f cs
+
+-- the last check under another number
+pub last-renamed : (cs : List Check) (t : Bool) (a b : ℕ) → every (λ n. not (eqb n a)) cs ≡ true → eqb 0 a ≡ false
+    → cond (eqb (first-failing (cs ++ or-else t a ∷ [])) a) b (first-failing (cs ++ or-else t a ∷ [])) ≡ first-failing (cs ++ or-else t b ∷ [])
+last-renamed [] t a b all some = by-test t (λ e. rw (e, some)) (λ e. rw (e, eq-eqb a a refl))
+last-renamed (c ∷ cs) t a b all some =
+    by-test (c .passed) (λ e. rw e (last-renamed cs t a b (and-right (not (eqb (c .number) a)) (every (λ n. not (eqb n a)) cs) all) some))
+    (λ e. let other : eqb (c .number) a ≡ false = not-true _ (and-left (not (eqb (c .number) a)) (every (λ n. not (eqb n a)) cs) all) in rw (e, other))
 
 pub first-among : (f : ℕ → Bool) → f 0 ≡ true → (cs : List Check) → every f cs ≡ true → f (first-failing cs) ≡ true
 first-among f zero [] all = zero

@@ -92,9 +92,13 @@ pub record SendOutcome : Type 0 where
   pub words : List ℕ
   pub out : List ℕ
 
+-- of a card that has made N messages: "4"
+abbrev pub left-checks : ℕ → List Check
+left-checks N = or-else (not (eqb N MAX)) exhausted ∷ []
+
 -- before a message is made: "1, 3, 2, 4"
 abbrev pub making-checks : List ℕ → ℕ → List Check
-making-checks b q = read-checks b q ++ (or-else (not (eqb (N-of (cards b) b (own-card b)) MAX)) exhausted ∷ [])
+making-checks b q = read-checks b q ++ left-checks (N-of (cards b) b (own-card b))
 
 -- and 5, for a message of `size` bytes
 abbrev pub send-checks : List ℕ → ℕ → List ℕ → ℕ → List Check

@@ -2,23 +2,24 @@
 use Prim.Native.Nat.{ℕ, _+_, _≤_, _<_}
 use mathlib.Core.Path.{_≡_, refl, ap}
 use mathlib.Core.Logic.{_≢_}
-use mathlib.Core.List.{List}
+use mathlib.Core.List.{List, [], _∷_}
 use mathlib.Core.Bool.{true, false, not, _&&_}
 use native.Mathlib.Omega.{arith}
 use lib.ListN.{length}
 use lib.Dec.{leb, ltb, eqb}
 use borrow.Author.Tests.{lt-ltb, le-leb, ne-eqb}
-use Rattle.protocol.specs.Limits.{MAX}
 use Rattle.protocol.specs.Entry.{present}
 use Rattle.protocol.specs.Acceptance.{all-entries, cards-known, increment-implausible, plausible}
-use Rattle.protocol.specs.Checks.{Gives}
+use Rattle.protocol.specs.Checks.{Gives, AllPass, or-else}
+use Rattle.protocol.specs.Limits.{short-output}
+use Rattle.protocol.specs.ChecksLaws.{first-passes, passes-gives, all-append}
 use Rattle.protocol.specs.AcceptanceLaws.{row-alike, count-none}
 use Rattle.wire.specs.Message.{increment-message, message-bytes, increment-length, clear-length}
 use Rattle.wire.specs.Bounds.{increment-in-range-from, increment-entries}
 use Rattle.wire.specs.RoundTrips.{message-read, read-as}
 use Rattle.replica_model.specs.Layout.{replica-length, C-of, N-of, fresh-words}
 use Rattle.replica_model.specs.LayoutLaws.{fresh-shows}
-use Rattle.replica_model.specs.Calls.{sizes-in-range, right, row-well-formed, open-on, read-on, count-on, clear-on, take-on, send-checks, holders, replica-fits}
+use Rattle.replica_model.specs.Calls.{sizes-in-range, right, row-well-formed, open-on, read-on, count-on, clear-on, take-on, left-checks, send-checks, holders, replica-fits}
 use Rattle.replica_model.specs.ClaimTerms.{Right, RowOf, Sizes}
 use Rattle.replica_model.specs.RowLaws.{right-from, row-from, tests}
 use Rattle.replica_model.specs.Format.{content, format-1}
@@ -54,8 +55,8 @@ module _ (r k own q : ℕ) (s : Sizes r k) (o : own < r) (hq : q < k) where
   unfolding fresh-words
   sends out size l =
       let zero-N : N-of r b own ≡ 0 = fresh-shows r k own .Ns own o in
-      let more : eqb (N-of r b own) MAX ≡ false = ne-eqb (N-of r b own) MAX (λ e. omega arith) in
-      (is-right, (lt-ltb q k hq, (is-well-formed, (ap not more, (le-leb size (length out) l, refl)))))
+      let left : AllPass (left-checks (N-of r b own)) = rw zero-N (first-passes (left-checks 0) refl refl) in
+      passes-gives (send-checks b q out size) refl (is-right, (lt-ltb q k hq, (is-well-formed, all-append (left-checks (N-of r b own)) (or-else (leb size (length out)) short-output ∷ []) left (le-leb size (length out) l, tt))))
 
   pub fresh-read : read-on b q .number ≡ 0
   unfolding fresh-words
