@@ -601,7 +601,8 @@ static void odd_bytes(int at_end)
     drop(&w);
 }
 
-static unsigned answered[YELANSUB_LOG_FULL + 1]; /* how often a step gave each number */
+#define LAST_ANSWER YELANSUB_LOG_FULL /* the greatest number there is */
+static unsigned answered[LAST_ANSWER + 1]; /* how often a step gave each number */
 
 /* The last of the kinds of step, which are numbered from 1. */
 enum { LAST_KIND = YELANSUB_STEP_DELIVER };
@@ -650,7 +651,7 @@ static void runs(unsigned cards, unsigned counters, uint64_t log, size_t steps, 
     HOLD(unchanged(&s) && only(&w, w.len) && only(&l, l.len) && only(&a, a.len));
     uint64_t *answers = in(&a);
     for (size_t i = 0; i < steps; i++) {
-        HOLD(answers[i] <= YELANSUB_LOG_FULL);
+        HOLD(answers[i] <= LAST_ANSWER);
         answered[answers[i]]++;
     }
     doing = "run of records";
@@ -686,7 +687,7 @@ static void all_answers(void)
     static const unsigned given[] = {YELANSUB_OK, YELANSUB_BAD_COUNTER, YELANSUB_BAD_CARD, YELANSUB_BAD_KIND,
                                      YELANSUB_NOTHING_WAITING, YELANSUB_LOG_FULL};
     doing = "answers of steps";
-    for (unsigned number = 0; number <= YELANSUB_LOG_FULL; number++) {
+    for (unsigned number = 0; number <= LAST_ANSWER; number++) {
         int can = 0;
         for (size_t i = 0; i < sizeof given / sizeof *given; i++)
             can |= given[i] == number;

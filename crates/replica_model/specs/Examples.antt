@@ -14,7 +14,7 @@ use Rattle.protocol.specs.Acceptance.{tables-well-formed, entry-well-formed, ca
 use Rattle.wire.specs.Number.{number-at, bytes-of}
 use Rattle.wire.specs.Message as form
 use Rattle.wire.specs.Message.{header-bytes, increment-bytes, entry-bytes, entries-bytes, clear-bytes, message-bytes, header-in-range, increment-in-range, clear-in-range, entry-in-range, entries-in-range, unused, in-range, increment-message, entries-at, called-length, message-at, reads}
-use Rattle.replica_model.specs.Layout.{C-of, N-of, entry-of, fresh-words}
+use Rattle.replica_model.specs.Layout.{replica-length, C-of, N-of, entry-of, fresh-words}
 use Rattle.replica_model.specs.Calls.{replica-fits, words-after, send-with, take-with, sizes-in-range, right, row-well-formed, open-on, reading, read-on, count-on, clear-on, take-on}
 use Rattle.replica_model.specs.Format.{content}
 
@@ -48,8 +48,8 @@ output-lengths =
 -- "k = 64 accepted, 65 is 1."
 counter-limits : Bool
 counter-limits =
-    let b = room (3 + 2 + 3 * 64) in
-    let c = room (3 + 2 + 3 * 65) in
+    let b = room (replica-length 1 64) in
+    let c = room (replica-length 1 65) in
     eqb (open-on b 1 64 0 .number) 0 && eqb (open-on c 1 65 0 .number) 1
 
 -- "(1,0,0) (1,0,0) (1,0,1): counter 1 has (3,2,3), value 1."
