@@ -1,6 +1,8 @@
 /*
  * A driver in one process: line cards 0 and 1, and the console as card 2. The
- * cards count drops on counter 0, the console reads, and in the evening clears.
+ * cards count drops on counter 0, the console reads, and in the evening takes
+ * the day's figure and clears, in one call: a drop that came between a read and
+ * a clear would be in no day's figure.
  *
  *   cc -std=c11 -Iinclude examples/driver.c -Ltarget/staticlib -lyelansub
  */
@@ -22,34 +24,38 @@ struct packet {
     uint64_t length;
 };
 
-static struct packet sent(const char *what, unsigned card, struct yelansub_sent answer,
-                          struct packet packet)
+static void accepted(const char *what, unsigned card, uint64_t number)
 {
-    if (answer.number != YELANSUB_OK) {
-        printf("card %u: %s refused, %" PRIu64 "\n", card, what, answer.number);
+    if (number != YELANSUB_OK) {
+        printf("card %u: %s refused, %" PRIu64 "\n", card, what, number);
         exit(1);
     }
-    packet.length = answer.length;
-    printf("card %u: %s, message %" PRIu64 " of %" PRIu64 " bytes\n", card, what,
-           answer.sequence, answer.length);
-    return packet;
 }
 
 /* A drop on a port: counted here at once, and a message for the others. */
 static struct packet on_drop(unsigned card)
 {
     struct packet packet = {.length = 0};
-    struct yelansub_sent answer =
+    struct yelansub_sent sent =
         yelansub_count(replica[card], words, DROPS, packet.bytes, sizeof packet.bytes);
-    return sent("drop", card, answer, packet);
+    accepted("drop", card, sent.number);
+    packet.length = sent.length;
+    printf("card %u: drop, message %" PRIu64 " of %" PRIu64 " bytes\n", card, sent.sequence,
+           sent.length);
+    return packet;
 }
 
+/* The drops since the last evening, and a message that clears just these on the other cards. */
 static struct packet evening(unsigned card)
 {
     struct packet packet = {.length = 0};
-    struct yelansub_sent answer =
-        yelansub_clear(replica[card], words, DROPS, packet.bytes, sizeof packet.bytes);
-    return sent("clear", card, answer, packet);
+    struct yelansub_cleared day =
+        yelansub_read_and_clear(replica[card], words, DROPS, packet.bytes, sizeof packet.bytes);
+    accepted("clear", card, day.number);
+    packet.length = day.length;
+    printf("card %u: %" PRIu64 " drops today, cleared, message %" PRIu64 " of %" PRIu64 " bytes\n",
+           card, day.value, day.sequence, day.length);
+    return packet;
 }
 
 /* A message has come. 8 is a repeat, to be dropped; after 9 an earlier one is still due. */
@@ -87,7 +93,7 @@ int main(void)
     on_message(CONSOLE, &third);  /* early: 9, the second has not come */
     on_message(CONSOLE, &second);
     on_message(CONSOLE, &third);
-    show(CONSOLE);                /* the drops that the clear had not seen */
+    show(CONSOLE);                /* the drops that the clear had not seen: tomorrow's figure */
 
     on_message(0, &clear);
     show(0);                      /* the same two on the card that counted them */

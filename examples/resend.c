@@ -132,35 +132,40 @@ static void settle(void)
         expect("the number of messages kept after a thousand turns", to_keep(i), 0);
 }
 
-typedef struct yelansub_sent sending(uint64_t *, size_t, uint64_t, uint8_t *, size_t);
-
-/* With no room to keep one more message, counting and clearing have to wait. */
-static void wait_for_room(unsigned i)
+/* Where card i keeps its next message. With no room for one more, counting and clearing have to
+   wait. */
+static struct message *room(unsigned i)
 {
     if (to_keep(i) == KEPT)
         settle();
+    return &cards[i].kept[(cards[i].made + 1) % KEPT];
 }
 
-/* Counts or clears on card i and keeps the message. */
-static void make(unsigned i, sending *call)
+/* Card i has made the message that is there. */
+static void made(unsigned i, struct message *message, uint64_t sequence, uint64_t length)
 {
-    wait_for_room(i);
-    struct message *message = &cards[i].kept[(cards[i].made + 1) % KEPT];
-    struct yelansub_sent sent =
-        call(cards[i].words, words, DROPS, message->bytes, sizeof message->bytes);
-    expect("the answer to count or clear", sent.number, YELANSUB_OK);
-    message->length = sent.length;
-    message->sequence = cards[i].made = sent.sequence;
+    message->length = length;
+    message->sequence = cards[i].made = sequence;
 }
 
-/* The console notes the drops that it has heard of, and clears just these: nothing may be taken
-   between the read and the clear, so the waiting comes first. */
+static void count(unsigned i)
+{
+    struct message *message = room(i);
+    struct yelansub_sent sent = yelansub_count(cards[i].words, words, DROPS, message->bytes,
+                                               sizeof message->bytes);
+    expect("the answer to count", sent.number, YELANSUB_OK);
+    made(i, message, sent.sequence, sent.length);
+}
+
+/* The console notes the drops that it has heard of, and clears just these. */
 static uint64_t collect(void)
 {
-    wait_for_room(CONSOLE);
-    uint64_t value = yelansub_read(cards[CONSOLE].words, words, DROPS).value;
-    make(CONSOLE, yelansub_clear);
-    return value;
+    struct message *message = room(CONSOLE);
+    struct yelansub_cleared cleared = yelansub_read_and_clear(
+        cards[CONSOLE].words, words, DROPS, message->bytes, sizeof message->bytes);
+    expect("the answer to read and clear", cleared.number, YELANSUB_OK);
+    made(CONSOLE, message, cleared.sequence, cleared.length);
+    return cleared.value;
 }
 
 int main(void)
@@ -172,9 +177,9 @@ int main(void)
        of by then, and the rest when it has heard of all: 150, whatever was lost on the way. */
     uint64_t collected = 0;
     for (unsigned turn = 1; turn <= 100; turn++) {
-        make(0, yelansub_count);
+        count(0);
         if (turn % 2 == 0)
-            make(1, yelansub_count);
+            count(1);
         go_on();
         if (turn % 20 == 0)
             collected += collect();
@@ -185,9 +190,9 @@ int main(void)
 
     /* Four drops on card 0 and three on card 1 that the last clear has not seen: they stay. */
     for (unsigned drop = 0; drop < 4; drop++)
-        make(0, yelansub_count);
+        count(0);
     for (unsigned drop = 0; drop < 3; drop++)
-        make(1, yelansub_count);
+        count(1);
     settle();
 
     /* The cards have written 104 and 53 messages, the console six: two others took each, once.

@@ -5,12 +5,17 @@
  * clearing change the own replica at once and write a message, which the driver
  * carries to every other card.
  *
- * What is proved. Open one replica on each card, then count, clear and take in
- * any order, with any counters, buffers and bytes, over a network that may
- * lose, repeat, reorder and damage messages. After every such history a read
- * of any counter on any card is accepted, and is what the counter's ledger has
- * for that card, fed the accepted calls; cards that have received the same
- * messages read alike; and no call moves a counter other than its own.
+ * What is proved. Open one replica on each card, then count, clear, read and
+ * clear, and take in any order, with any counters, buffers and bytes, over a
+ * network that may lose, repeat, reorder and damage messages. After every such
+ * history a read of any counter on any card is accepted, and is what the
+ * counter's ledger has for that card, fed the accepted calls; cards that have
+ * received the same messages read alike; and no call moves a counter other than
+ * its own. For a counter that only one card clears, always by
+ * yelansub_read_and_clear, the values that it answered there plus what a read
+ * on that card gives now are exactly as many as the increments of that counter
+ * that the card has received, its own included. Refused clears, and clears of
+ * other counters, do not matter for that.
  * yelansub_take answers a message that its sender wrote with 0 if it is the
  * next of that sender, 8 if it was taken before, 9 if an earlier one is
  * missing, 7 on the sender itself, and nothing else. What was answered 0 or 8
@@ -74,6 +79,8 @@ extern "C" {
 
 /* Bytes of one step of yelansub_run. */
 #define YELANSUB_STEP_BYTES 12
+/* Words of answer for each step: its number, and the value read. */
+#define YELANSUB_ANSWER_WORDS 2
 
 /* Numbers that a call answers. */
 #define YELANSUB_OK 0
@@ -93,9 +100,10 @@ extern "C" {
 #define YELANSUB_LOG_FULL 14        /* the card's log is too short for the message */
 
 /* Kinds of step. */
-#define YELANSUB_STEP_COUNT 1       /* card, counter */
-#define YELANSUB_STEP_CLEAR 2       /* card, counter */
-#define YELANSUB_STEP_DELIVER 3     /* receiver, sender */
+#define YELANSUB_STEP_COUNT 1          /* card, counter */
+#define YELANSUB_STEP_CLEAR 2          /* card, counter */
+#define YELANSUB_STEP_DELIVER 3        /* receiver, sender */
+#define YELANSUB_STEP_READ_AND_CLEAR 4 /* card, counter */
 
 /*
  * Writes a fresh replica of card `own` for `cards` cards and `counters`
@@ -151,6 +159,24 @@ struct yelansub_sent yelansub_count(uint64_t *words, size_t words_len, uint64_t 
  */
 struct yelansub_sent yelansub_clear(uint64_t *words, size_t words_len, uint64_t counter,
                                     uint8_t *out, size_t out_len);
+
+struct yelansub_cleared {
+    uint64_t number;
+    uint64_t value;    /* as yelansub_read gives it just before */
+    uint64_t sequence; /* as yelansub_clear answers it */
+    uint64_t length;
+};
+
+/*
+ * Reads and clears in one call. Between a yelansub_read and the yelansub_clear
+ * after it a count can slip in, and is cleared without having been read; here
+ * nothing comes in between. Refusals, and all that it leaves in words and out,
+ * are those of yelansub_clear. Where one card alone clears a counter, always by
+ * this call, the values answered and its present value add up to the number of
+ * increments that it has received.
+ */
+struct yelansub_cleared yelansub_read_and_clear(uint64_t *words, size_t words_len, uint64_t counter,
+                                                uint8_t *out, size_t out_len);
 
 struct yelansub_taken {
     uint64_t number;
@@ -242,19 +268,21 @@ struct yelansub_span yelansub_waiting(const uint8_t *log, size_t log_len, uint64
 /*
  * Runs steps on a whole chassis that begins fresh. words holds the cards'
  * replicas, card by card; logs holds log_bytes bytes for each card, where its
- * messages are put end to end; answers has one word for each step. A step is
- * three unsigned ints, big-endian: kind (YELANSUB_STEP_...), then card and
- * counter, or receiver and sender. Answers 0, or
+ * messages are put end to end; answers has YELANSUB_ANSWER_WORDS words for each
+ * step. A step is three unsigned ints, big-endian: kind (YELANSUB_STEP_...),
+ * then card and counter, or receiver and sender. Answers 0, or
  *   11  cards is not 1 to YELANSUB_MOST_CARDS, counters is not 1 to
  *       YELANSUB_MOST_COUNTERS, steps_len is no multiple of
  *       YELANSUB_STEP_BYTES, or words_len, logs_len or answers_len does not fit.
- * Each step's answer is 0, or the first of
+ * The first word of a step's answer is 0, or the first of
  *   12  there is no such kind,
  *   7   a card is not below cards, or a delivery names one card twice,
  *   3   the counter is not below counters (not for a delivery),
- *   4   the card has made its last message (count and clear),
- *   14  the card's log has too little room left (count and clear),
+ *   4   the card has made its last message (not for a delivery),
+ *   14  the card's log has too little room left (not for a delivery),
  *   13  the sender has no message that the receiver has not had (delivery).
+ * The second is the value that an accepted YELANSUB_STEP_READ_AND_CLEAR has
+ * read, and 0 for all others.
  * A refused step changes no replica and no log; the run goes on after it. Log
  * bytes past a card's messages keep their values and never count as messages.
  */

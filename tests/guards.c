@@ -174,6 +174,26 @@ static int same(const struct yelansub_message *a, const struct yelansub_message 
     return fields;
 }
 
+/* The kinds of step that make a message. */
+static const unsigned making[] = {YELANSUB_STEP_COUNT, YELANSUB_STEP_CLEAR, YELANSUB_STEP_READ_AND_CLEAR};
+enum { MAKING = sizeof making / sizeof *making };
+
+/* The call of that kind; one that reads no value gives 0. */
+static struct yelansub_cleared make(unsigned kind, uint64_t *words, size_t len, uint64_t counter, uint8_t *out,
+                                    size_t room)
+{
+    if (kind == YELANSUB_STEP_READ_AND_CLEAR)
+        return yelansub_read_and_clear(words, len, counter, out, room);
+    struct yelansub_sent sent = kind == YELANSUB_STEP_COUNT ? yelansub_count(words, len, counter, out, room)
+                                                            : yelansub_clear(words, len, counter, out, room);
+    return (struct yelansub_cleared){sent.number, 0, sent.sequence, sent.length};
+}
+
+static int refused(struct yelansub_cleared made, uint64_t number)
+{
+    return made.number == number && !made.value && !made.sequence && !made.length;
+}
+
 /* Null and a pointer to nothing, with length 0, for every buffer of every export. */
 static void no_memory(void)
 {
@@ -190,12 +210,10 @@ static void no_memory(void)
         HOLD(yelansub_open(p, 0, 1, 1, 0) == YELANSUB_BAD_REPLICA);
         struct yelansub_reading reading = yelansub_read(p, 0, 0);
         HOLD(reading.number == YELANSUB_BAD_REPLICA && !reading.value && !reading.holders && !reading.holder_count);
-        struct yelansub_sent sent = yelansub_count(p, 0, 0, p, 0);
-        HOLD(sent.number == YELANSUB_BAD_REPLICA && !sent.sequence && !sent.length);
-        sent = yelansub_clear(p, 0, 0, p, 0);
-        HOLD(sent.number == YELANSUB_BAD_REPLICA && !sent.sequence && !sent.length);
-        HOLD(yelansub_count(fresh, len, 0, p, 0).number == YELANSUB_SHORT_OUTPUT);
-        HOLD(yelansub_clear(fresh, len, 0, p, 0).number == YELANSUB_SHORT_OUTPUT);
+        for (size_t of = 0; of < MAKING; of++) {
+            HOLD(refused(make(making[of], p, 0, 0, p, 0), YELANSUB_BAD_REPLICA));
+            HOLD(refused(make(making[of], fresh, len, 0, p, 0), YELANSUB_SHORT_OUTPUT));
+        }
         struct yelansub_taken taken = yelansub_take(p, 0, p, 0);
         HOLD(taken.number == YELANSUB_BAD_REPLICA && !taken.sequence);
         HOLD(yelansub_take(fresh, len, p, 0).number == YELANSUB_UNREADABLE);
@@ -240,10 +258,8 @@ static void refused_head(uint64_t cards, uint64_t counters, uint64_t own, size_t
     doing = "calls on words with a wrong head";
     struct yelansub_reading reading = yelansub_read(words, len, 0);
     HOLD(reading.number == YELANSUB_BAD_REPLICA && !reading.value && !reading.holders && !reading.holder_count);
-    struct yelansub_sent sent = yelansub_count(words, len, 0, in(&o), o.len);
-    HOLD(sent.number == YELANSUB_BAD_REPLICA && !sent.sequence && !sent.length);
-    sent = yelansub_clear(words, len, 0, in(&o), o.len);
-    HOLD(sent.number == YELANSUB_BAD_REPLICA && !sent.sequence && !sent.length);
+    for (size_t of = 0; of < MAKING; of++)
+        HOLD(refused(make(making[of], words, len, 0, in(&o), o.len), YELANSUB_BAD_REPLICA));
     struct yelansub_taken taken = yelansub_take(words, len, in(&o), o.len);
     HOLD(taken.number == YELANSUB_BAD_REPLICA && !taken.sequence);
     HOLD(unchanged(&w) && unchanged(&o));
@@ -294,12 +310,11 @@ static void refused_send(int at_end, struct change change, uint64_t counter, siz
     uint64_t *words = in(&w);
     keep(&o);
     doing = "refused count, clear and read";
-    struct yelansub_sent sent = yelansub_count(words, WORDS, counter, in(&o), room);
-    HOLD(sent.number == number && !sent.sequence && !sent.length);
-    /* A clear of nothing is shorter than an increment. */
-    if (number != YELANSUB_SHORT_OUTPUT || room < YELANSUB_CLEAR_BYTES(0)) {
-        sent = yelansub_clear(words, WORDS, counter, in(&o), room);
-        HOLD(sent.number == number && !sent.sequence && !sent.length);
+    for (size_t of = 0; of < MAKING; of++) {
+        /* A clear of nothing is shorter than an increment. */
+        size_t bytes = making[of] == YELANSUB_STEP_COUNT ? YELANSUB_INCREMENT_BYTES : YELANSUB_CLEAR_BYTES(0);
+        if (number != YELANSUB_SHORT_OUTPUT || room < bytes)
+            HOLD(refused(make(making[of], words, WORDS, counter, in(&o), room), number));
     }
     int reads = number == YELANSUB_EXHAUSTED || number == YELANSUB_SHORT_OUTPUT;
     struct yelansub_reading r = yelansub_read(words, WORDS, counter);
@@ -474,8 +489,8 @@ static void refused_messages(int at_end)
     drop(&o);
 }
 
-/* Every card counts, one clears, all take: outputs as long as needed, or one or two bytes more. */
-static void exact_buffers(unsigned cards, unsigned counters, int at_end)
+/* Every card counts, one clears by this kind of step, all take: outputs as long as needed, or one or two bytes more. */
+static void exact_buffers(unsigned cards, unsigned counters, unsigned clear, int at_end)
 {
     size_t len = YELANSUB_REPLICA_WORDS(cards, counters);
     struct area w[YELANSUB_MOST_CARDS];
@@ -497,15 +512,13 @@ static void exact_buffers(unsigned cards, unsigned counters, int at_end)
         size_t bytes = made < cards ? YELANSUB_INCREMENT_BYTES : YELANSUB_CLEAR_BYTES(cards);
         size_t room = bytes + made % 3;
         struct area m = area(room, at_end);
-        struct yelansub_sent sent;
+        unsigned kind = made < cards ? YELANSUB_STEP_COUNT : clear;
         keep(&m);
         keep(&w[maker]);
         doing = "count and clear";
-        if (made < cards)
-            sent = yelansub_count(in(&w[maker]), len, counter, in(&m), room);
-        else
-            sent = yelansub_clear(in(&w[maker]), len, counter, in(&m), room);
+        struct yelansub_cleared sent = make(kind, in(&w[maker]), len, counter, in(&m), room);
         HOLD(sent.number == YELANSUB_OK && sent.length == bytes && only(&m, bytes) && only(&w[maker], w[maker].len));
+        HOLD(sent.value == (kind == YELANSUB_STEP_READ_AND_CLEAR ? cards : 0));
         doing = "take";
         keep(&m);
         for (unsigned to = 0; to < cards; to++) {
@@ -605,14 +618,17 @@ static void odd_bytes(int at_end)
 static unsigned answered[LAST_ANSWER + 1]; /* how often a step gave each number */
 
 /* The last of the kinds of step, which are numbered from 1. */
-enum { LAST_KIND = YELANSUB_STEP_DELIVER };
+enum { LAST_KIND = YELANSUB_STEP_READ_AND_CLEAR };
+
+static unsigned values; /* how often a step read one that is not 0 */
 
 /* Runs of odd steps in exact buffers, by bytes and by records, and each size one off. */
 static void runs(unsigned cards, unsigned counters, uint64_t log, size_t steps, int at_end)
 {
     size_t len = cards * YELANSUB_REPLICA_WORDS(cards, counters);
     struct area s = area(steps * YELANSUB_STEP_BYTES, at_end), w = area(len * sizeof(uint64_t), at_end);
-    struct area l = area(cards * log, at_end), a = area(steps * sizeof(uint64_t), at_end);
+    size_t answer_words = steps * YELANSUB_ANSWER_WORDS;
+    struct area l = area(cards * log, at_end), a = area(answer_words * sizeof(uint64_t), at_end);
     struct area records = area(steps * sizeof(struct yelansub_step), at_end);
     struct yelansub_step *record = in(&records);
     uint8_t *step = in(&s);
@@ -627,17 +643,19 @@ static void runs(unsigned cards, unsigned counters, uint64_t log, size_t steps, 
     for (size_t i = 0; i < sizeof all / sizeof *all; i++)
         keep(all[i]);
     doing = "refused run";
-    for (unsigned wrong = 0; wrong < 7; wrong++) {
-        size_t lens[] = {s.len, len, cards * log, steps}, count = steps;
+    for (unsigned wrong = 0; wrong < 8; wrong++) {
+        size_t lens[] = {s.len, len, cards * log, answer_words}, count = steps;
         uint64_t numbers[] = {cards, counters, log};
-        if (wrong < 4 && lens[wrong] == 0)
+        if ((wrong < 4 && lens[wrong] == 0) || (wrong == 7 && steps == 0))
             continue;
         if (wrong == 0)
             count--;
         if (wrong < 4)
             lens[wrong]--;
-        else
+        else if (wrong < 7)
             numbers[wrong - 4]++;
+        else
+            lens[3] = steps; /* one word for each */
         HOLD(yelansub_run(numbers[0], numbers[1], numbers[2], in(&s), lens[0], in(&w), lens[1], in(&l), lens[2],
                           in(&a), lens[3]) == YELANSUB_BAD_SIZES);
         HOLD(yelansub_run_records(numbers[0], numbers[1], numbers[2], record, count, in(&w), lens[1], in(&l),
@@ -646,18 +664,21 @@ static void runs(unsigned cards, unsigned counters, uint64_t log, size_t steps, 
             HOLD(unchanged(all[i]));
     }
     doing = "run";
-    HOLD(yelansub_run(cards, counters, log, in(&s), s.len, in(&w), len, in(&l), cards * log, in(&a), steps) ==
+    HOLD(yelansub_run(cards, counters, log, in(&s), s.len, in(&w), len, in(&l), cards * log, in(&a), answer_words) ==
          YELANSUB_OK);
     HOLD(unchanged(&s) && only(&w, w.len) && only(&l, l.len) && only(&a, a.len));
-    uint64_t *answers = in(&a);
-    for (size_t i = 0; i < steps; i++) {
-        HOLD(answers[i] <= LAST_ANSWER);
-        answered[answers[i]]++;
+    const uint64_t *answer = in(&a);
+    for (size_t i = 0; i < steps; i++, answer += YELANSUB_ANSWER_WORDS) {
+        uint64_t number = answer[0], value = answer[1];
+        HOLD(number <= LAST_ANSWER);
+        answered[number]++;
+        HOLD(!value || (number == YELANSUB_OK && record[i].kind == YELANSUB_STEP_READ_AND_CLEAR));
+        values += value > 0;
     }
     doing = "run of records";
     struct area kept[] = {area(w.len, at_end), area(l.len, at_end), area(a.len, at_end)};
     HOLD(yelansub_run_records(cards, counters, log, record, steps, in(&kept[0]), len, in(&kept[1]),
-                              cards * log, in(&kept[2]), steps) == YELANSUB_OK);
+                              cards * log, in(&kept[2]), answer_words) == YELANSUB_OK);
     HOLD(unchanged(&records));
     HOLD(memcmp(kept[0].pages, w.pages, w.size) == 0 && memcmp(kept[1].pages, l.pages, l.size) == 0);
     HOLD(memcmp(kept[2].pages, a.pages, a.size) == 0);
@@ -693,6 +714,7 @@ static void all_answers(void)
             can |= given[i] == number;
         HOLD((answered[number] > 0) == can);
     }
+    HOLD(values > 0);
 }
 
 int main(void)
@@ -703,11 +725,12 @@ int main(void)
         refusals(at_end);
         exact_messages(at_end);
         refused_messages(at_end);
-        for (unsigned cards = 1; cards <= YELANSUB_MOST_CARDS; cards++) {
-            exact_buffers(cards, 1, at_end);
-            exact_buffers(cards, 7, at_end);
-            exact_buffers(cards, YELANSUB_MOST_COUNTERS, at_end);
-        }
+        for (unsigned cards = 1; cards <= YELANSUB_MOST_CARDS; cards++)
+            for (size_t of = 1; of < MAKING; of++) { /* the kinds that clear */
+                exact_buffers(cards, 1, making[of], at_end);
+                exact_buffers(cards, 7, making[of], at_end);
+                exact_buffers(cards, YELANSUB_MOST_COUNTERS, making[of], at_end);
+            }
         odd_bytes(at_end);
         for (unsigned round = 0; round < 300; round++)
             runs(1 + (unsigned)any(4), 1 + (unsigned)any(3), any(3) ? 400 : any(80), any(50), at_end);

@@ -30,6 +30,12 @@ FIELD(yelansub_sent, number, 0, 8);
 FIELD(yelansub_sent, sequence, 8, 8);
 FIELD(yelansub_sent, length, 16, 8);
 
+STRUCT(yelansub_cleared, 32, 8);
+FIELD(yelansub_cleared, number, 0, 8);
+FIELD(yelansub_cleared, value, 8, 8);
+FIELD(yelansub_cleared, sequence, 16, 8);
+FIELD(yelansub_cleared, length, 24, 8);
+
 STRUCT(yelansub_taken, 16, 8);
 FIELD(yelansub_taken, number, 0, 8);
 FIELD(yelansub_taken, sequence, 8, 8);

@@ -71,9 +71,22 @@ fn item(name: &str, make: fn() -> State, library: Work, reference: Work) -> Item
     }
 }
 
+/// Against the reference, and against the library's two calls.
+fn read_and_clear(name: &str, make: fn() -> State) -> Item {
+    let mut item = item(
+        &format!("read and clear, {name}"),
+        make,
+        |s| each(s, library_read_and_clear),
+        |s| each(s, reference_read_and_clear),
+    );
+    item.sides.push(("read, then clear", |s| each(s, library_read_then_clear)));
+    item
+}
+
 pub fn calls() -> Vec<Item> {
     let all_hold = &format!("read, {CARDS} holders");
-    let clear_all = &format!("clear, {CARDS} entries");
+    let all_entries = &format!("{CARDS} entries");
+    let clear_all = &format!("clear, {all_entries}");
     let take_all = &format!("take a clear of {CARDS}");
     let last = &format!("waiting, the {CALLS}th");
     vec![
@@ -84,6 +97,8 @@ pub fn calls() -> Vec<Item> {
         item("count, start", empty, |s| each(s, library_count), |s| each(s, reference_count)),
         item(clear_all, full, |s| each(s, library_clear), |s| each(s, reference_clear)),
         item("clear, no entry", empty, |s| each(s, library_clear), |s| each(s, reference_clear)),
+        read_and_clear(all_entries, full),
+        read_and_clear("no entry", empty),
         item(
             "take an increment",
             increments,
@@ -145,10 +160,11 @@ pub fn runs() -> Vec<Item> {
         sides: vec![("library", library_run as Work), ("reference", reference_run as Work)],
     };
     vec![
-        run("run of no steps", 1, (|| steps(0)) as fn() -> State),
-        run("run of 1,000 steps", 1_000, || steps(1_000)),
-        run("run of 10,000 steps", 10_000, || steps(10_000)),
-        run("run of 100,000 steps", LONGEST_RUN as u64, || steps(LONGEST_RUN)),
+        run("run of no steps", 1, (|| steps(0, Step::clear)) as fn() -> State),
+        run("run of 1,000 steps", 1_000, || steps(1_000, Step::clear)),
+        run("run of 10,000 steps", 10_000, || steps(10_000, Step::clear)),
+        run("run of 100,000 steps", LONGEST_RUN as u64, || steps(LONGEST_RUN, Step::clear)),
+        run("run of 10,000, read and clear", 10_000, || steps(10_000, Step::read_and_clear)),
     ]
 }
 
@@ -245,9 +261,9 @@ fn repeated() -> State {
     state
 }
 
-/// Card after card makes a message on one of four counters, one in eight a clear, and every other
-/// card takes it at once: the same mix however long the list.
-fn steps(len: usize) -> State {
+/// Card after card makes a message on one of four counters, one in eight a clear by this step, and
+/// every other card takes it at once: the same mix however long the list.
+fn steps(len: usize, clear: fn(u32, u32) -> Step) -> State {
     let mut random = Random::new(3);
     let mut state = blank();
     for place in 0..LONGEST_RUN {
@@ -255,7 +271,7 @@ fn steps(len: usize) -> State {
         let other = (card + (place % CARDS) as u32) % CARDS as u32;
         let counter = random.below(4) as u32;
         let step = match (place % CARDS, random.below(8)) {
-            (0, 0) => Step::clear(card, counter),
+            (0, 0) => clear(card, counter),
             (0, _) => Step::count(card, counter),
             _ => Step::deliver(other, card),
         };
@@ -265,7 +281,7 @@ fn steps(len: usize) -> State {
     state.kept = vec![0; CARDS * replica_words(CARDS, COUNTERS)];
     state.words = state.kept.clone();
     state.logs = vec![0; CARDS * LOG_BYTES];
-    state.answers = vec![0; len];
+    state.answers = vec![0; ANSWER_WORDS * len];
     state
 }
 
@@ -305,6 +321,20 @@ fn library_clear(s: &mut State, counter: usize) {
 #[inline(never)]
 fn reference_clear(s: &mut State, counter: usize) {
     let _ = black_box(replica::clear(&mut s.words, counter as u64, &mut s.out));
+}
+
+fn library_read_and_clear(s: &mut State, counter: usize) {
+    black_box(library::read_and_clear(&mut s.words, counter as u64, &mut s.out));
+}
+
+fn library_read_then_clear(s: &mut State, counter: usize) {
+    library_read(s, counter);
+    library_clear(s, counter);
+}
+
+#[inline(never)]
+fn reference_read_and_clear(s: &mut State, counter: usize) {
+    let _ = black_box(replica::read_and_clear(&mut s.words, counter as u64, &mut s.out));
 }
 
 fn library_take(s: &mut State, counter: usize) {

@@ -3,6 +3,7 @@
 use core::ops::Range;
 
 use crate::limits::*;
+use crate::replica::Cleared;
 use crate::{message, replica};
 
 /// Bytes of each number of a step.
@@ -25,8 +26,17 @@ impl Step {
         Step { kind: STEP_CLEAR, first: card, second: counter }
     }
 
+    pub const fn read_and_clear(card: u32, counter: u32) -> Step {
+        Step { kind: STEP_READ_AND_CLEAR, first: card, second: counter }
+    }
+
     pub const fn deliver(receiver: u32, sender: u32) -> Step {
         Step { kind: STEP_DELIVER, first: receiver, second: sender }
+    }
+
+    /// Whether it is of a kind that clears.
+    pub fn clears(self) -> bool {
+        [STEP_CLEAR, STEP_READ_AND_CLEAR].contains(&self.kind)
     }
 
     pub fn from_bytes(bytes: &[u8; STEP_BYTES]) -> Step {
@@ -57,6 +67,9 @@ pub fn waiting(log: &[u8], q: u64) -> Range<usize> {
     }
     span
 }
+
+/// A step's number, and the value that it has read.
+pub type Answer = [u64; ANSWER_WORDS];
 
 /// What is borrowed for a run.
 pub struct Buffers<'a> {
@@ -102,7 +115,7 @@ fn run_each(
     let each = replica_words(cards, counters);
     let sizes = lent.words.len() == cards * each
         && lent.logs.len() as u128 == u128::from(r) * u128::from(log_bytes)
-        && lent.answers.len() == len;
+        && lent.answers.len() == ANSWER_WORDS * len;
     if !sizes {
         return Err(BAD_SIZES);
     }
@@ -119,8 +132,8 @@ fn run_each(
         used: [0; MOST_CARDS],
         next: [[0; MOST_CARDS]; MOST_CARDS],
     };
-    for (step, answer) in steps.zip(lent.answers) {
-        *answer = chassis.step(step).err().unwrap_or(OK);
+    for (step, answer) in steps.zip(lent.answers.as_chunks_mut().0) {
+        *answer = chassis.step(step).map_or_else(|number| [number, 0], |value| [OK, value]);
     }
     Ok(())
 }
@@ -140,11 +153,14 @@ struct Chassis<'a> {
 }
 
 impl Chassis<'_> {
-    fn step(&mut self, step: Step) -> Result<(), u64> {
+    /// Gives the value read, which is 0 for all kinds but one.
+    fn step(&mut self, step: Step) -> Result<u64, u64> {
+        let unread = Cleared::unread;
         match step.kind {
-            STEP_COUNT => self.send(step, replica::count),
-            STEP_CLEAR => self.send(step, replica::clear),
-            STEP_DELIVER => self.deliver(step.first as usize, step.second as usize),
+            STEP_COUNT => self.send(step, |w, q, out| replica::count(w, q, out).map(unread)),
+            STEP_CLEAR => self.send(step, |w, q, out| replica::clear(w, q, out).map(unread)),
+            STEP_READ_AND_CLEAR => self.send(step, replica::read_and_clear),
+            STEP_DELIVER => self.deliver(step.first as usize, step.second as usize).map(|()| 0),
             _ => Err(BAD_KIND),
         }
     }
@@ -152,8 +168,8 @@ impl Chassis<'_> {
     fn send(
         &mut self,
         step: Step,
-        call: impl FnOnce(&mut [u64], u64, &mut [u8]) -> Result<replica::Sent, u64>,
-    ) -> Result<(), u64> {
+        call: impl FnOnce(&mut [u64], u64, &mut [u8]) -> Result<Cleared, u64>,
+    ) -> Result<u64, u64> {
         let card = step.first as usize;
         if card >= self.cards {
             return Err(BAD_CARD);
@@ -165,9 +181,9 @@ impl Chassis<'_> {
         let log = &mut self.logs[card * self.log_bytes..][..self.log_bytes];
         let out = &mut log[self.used[card]..];
         match call(words, u64::from(step.second), out) {
-            Ok(sent) => {
+            Ok(Cleared { value, sent }) => {
                 self.used[card] += sent.length as usize;
-                Ok(())
+                Ok(value)
             }
             Err(SHORT_OUTPUT) => Err(LOG_FULL),
             Err(number) => Err(number),

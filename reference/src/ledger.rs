@@ -4,7 +4,7 @@
 use std::collections::{BTreeMap, BTreeSet, VecDeque};
 
 use crate::chassis::Step;
-use crate::limits::{STEP_CLEAR, STEP_COUNT, STEP_DELIVER};
+use crate::limits::{STEP_CLEAR, STEP_COUNT, STEP_DELIVER, STEP_READ_AND_CLEAR};
 
 /// A card's first, second, ... increment of the counter.
 pub type Name = (usize, u64);
@@ -84,7 +84,7 @@ impl Ledger {
                 self.send(first, message);
                 Ok(())
             }
-            STEP_CLEAR => {
+            STEP_CLEAR | STEP_READ_AND_CLEAR => {
                 let message =
                     if second == self.counter { self.clear(first) } else { Message::default() };
                 self.send(first, message);

@@ -28,6 +28,15 @@ pub struct Sent {
 
 #[repr(C)]
 #[derive(Clone, Copy, Debug, Default, PartialEq, Eq)]
+pub struct Cleared {
+    pub number: u64,
+    pub value: u64,
+    pub sequence: u64,
+    pub length: u64,
+}
+
+#[repr(C)]
+#[derive(Clone, Copy, Debug, Default, PartialEq, Eq)]
 pub struct Taken {
     pub number: u64,
     pub sequence: u64,
@@ -86,6 +95,7 @@ macro_rules! laid_out {
 // The structs of include/yelansub.h on x86-64, System V; tests/layout.c holds C to these numbers.
 laid_out!(Reading, 32, 8, { number: 0, value: 8, holders: 16, holder_count: 24 });
 laid_out!(Sent, 24, 8, { number: 0, sequence: 8, length: 16 });
+laid_out!(Cleared, 32, 8, { number: 0, value: 8, sequence: 16, length: 24 });
 laid_out!(Taken, 16, 8, { number: 0, sequence: 8 });
 laid_out!(Entry, 24, 8, { card: 0, p: 8, c: 16 });
 laid_out!(Message, 56 + 24 * MOST_CARDS, 8, {
@@ -98,7 +108,7 @@ laid_out!(Span, 16, 8, { start: 0, length: 8 });
 laid_out!(Step, 12, 4, { kind: 0, first: 4, second: 8 });
 
 mod raw {
-    use super::{Message, MessageReading, Reading, Sent, Span, Step, Taken, Written};
+    use super::{Cleared, Message, MessageReading, Reading, Sent, Span, Step, Taken, Written};
 
     extern "C" {
         pub fn yelansub_open(
@@ -123,6 +133,13 @@ mod raw {
             out: *mut u8,
             out_len: usize,
         ) -> Sent;
+        pub fn yelansub_read_and_clear(
+            words: *mut u64,
+            words_len: usize,
+            counter: u64,
+            out: *mut u8,
+            out_len: usize,
+        ) -> Cleared;
         pub fn yelansub_take(
             words: *mut u64,
             words_len: usize,
@@ -195,6 +212,11 @@ pub fn count(words: &mut [u64], counter: u64, out: &mut [u8]) -> Sent {
 
 pub fn clear(words: &mut [u64], counter: u64, out: &mut [u8]) -> Sent {
     unsafe { raw::yelansub_clear(lend_mut(words), words.len(), counter, lend_mut(out), out.len()) }
+}
+
+pub fn read_and_clear(words: &mut [u64], counter: u64, out: &mut [u8]) -> Cleared {
+    let (at, len) = (lend_mut(words), words.len());
+    unsafe { raw::yelansub_read_and_clear(at, len, counter, lend_mut(out), out.len()) }
 }
 
 pub fn take(words: &mut [u64], message: &[u8]) -> Taken {

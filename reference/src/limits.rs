@@ -32,10 +32,13 @@ pub const MESSAGE_CLEAR: u32 = 2;
 
 /// Bytes of one step of a run.
 pub const STEP_BYTES: usize = 12;
+/// Words of answer for each step: its number, and the value read.
+pub const ANSWER_WORDS: usize = 2;
 pub const STEP_COUNT: u32 = 1;
 pub const STEP_CLEAR: u32 = 2;
 pub const STEP_DELIVER: u32 = 3;
-pub const STEP_KINDS: [u32; 3] = [STEP_COUNT, STEP_CLEAR, STEP_DELIVER];
+pub const STEP_READ_AND_CLEAR: u32 = 4;
+pub const STEP_KINDS: [u32; 4] = [STEP_COUNT, STEP_CLEAR, STEP_DELIVER, STEP_READ_AND_CLEAR];
 
 pub const OK: u64 = 0;
 /// Replica length, r, k or own card wrong.

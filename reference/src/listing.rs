@@ -3,7 +3,7 @@
 use std::fmt::Write;
 
 use crate::chassis::{self, Buffers};
-use crate::limits::{replica_words, BAD_SIZES, STEP_BYTES};
+use crate::limits::{replica_words, ANSWER_WORDS, BAD_SIZES, STEP_BYTES};
 use crate::replica;
 
 // The program's own limits, below those of the library.
@@ -32,7 +32,7 @@ fn lines(input: &[u8]) -> Option<String> {
     let each = replica_words(cards, counters);
     let mut words = vec![0; cards * each];
     let mut logs = vec![0; cards * LOG_BYTES];
-    let mut answers = vec![0; steps.len() / STEP_BYTES];
+    let mut answers = vec![0; ANSWER_WORDS * (steps.len() / STEP_BYTES)];
     let lent = Buffers { words: &mut words, logs: &mut logs, answers: &mut answers };
     chassis::run(r.into(), k.into(), LOG_BYTES as u64, steps, lent).ok()?;
 

@@ -1,4 +1,4 @@
-//! SPECIFICATION 3 and 4: the replica, and count, clear, take, read.
+//! SPECIFICATION 3 and 4: the replica, and count, clear, take, read, read-and-clear.
 //!
 //! The words: r, k, own card; C[j]; N[j]; then, counter by counter, (p, n, c) for each card.
 
@@ -41,6 +41,20 @@ pub struct Reading {
 pub struct Sent {
     pub sequence: u64,
     pub length: u64,
+}
+
+/// What clear returns, and the value beside it.
+#[derive(Clone, Copy, Debug, Default, PartialEq, Eq)]
+pub struct Cleared {
+    pub value: u64,
+    pub sent: Sent,
+}
+
+impl Cleared {
+    /// Of a call that reads no value.
+    pub fn unread(sent: Sent) -> Cleared {
+        Cleared { value: 0, sent }
+    }
 }
 
 /// One card's entry of one counter: Algorithm 1's M[j]. Absent is (0, 0, 0).
@@ -189,15 +203,31 @@ pub fn count(words: &mut [u64], counter: u64, out: &mut [u8]) -> Result<Sent, u6
 
 /// Clears `counter`: every present entry to `out`, and applied; refused with 1, 3, 2, 4, 5.
 pub fn clear(words: &mut [u64], counter: u64, out: &mut [u8]) -> Result<Sent, u64> {
-    send(words, counter, out, |row| {
-        let mut entries = Entries::new();
-        for (card, cell) in row.cells().enumerate() {
-            if !cell.is_absent() {
-                entries.push(Entry { card: card as u32, p: cell.p, c: cell.c });
-            }
+    send(words, counter, out, |row| clearing(row).1)
+}
+
+/// Clears `counter`, and gives the value that a read gives just before; refused as clear.
+pub fn read_and_clear(words: &mut [u64], counter: u64, out: &mut [u8]) -> Result<Cleared, u64> {
+    let mut value = 0;
+    let sent = send(words, counter, out, |row| {
+        let (read, clear) = clearing(row);
+        value = read;
+        clear
+    })?;
+    Ok(Cleared { value, sent })
+}
+
+/// The value of a row, and the clear of all that it holds.
+fn clearing(row: &Row) -> (u64, Body) {
+    let mut value = 0;
+    let mut entries = Entries::new();
+    for (card, cell) in row.cells().enumerate() {
+        if !cell.is_absent() {
+            value += cell.p - cell.n;
+            entries.push(Entry { card: card as u32, p: cell.p, c: cell.c });
         }
-        Body::Clear(entries)
-    })
+    }
+    (value, Body::Clear(entries))
 }
 
 fn send(

@@ -63,27 +63,27 @@ fn waiting_agrees_on_good_and_damaged_logs() {
 #[test]
 fn every_list_of_two_cards_and_one_counter_to_depth_7() {
     let lists = runs::exhaustive(2, 1, 400, 7);
-    assert_eq!(lists, (0..=7).map(|depth| 6u64.pow(depth)).sum());
+    assert_eq!(lists, (0..=7).map(|depth| 8u64.pow(depth)).sum());
     println!("r 2, k 1: {lists} lists");
 }
 
 #[test]
 fn every_list_of_two_cards_with_little_log_to_depth_6() {
     let lists = runs::exhaustive(2, 1, 100, 6);
-    assert_eq!(lists, (0..=6).map(|depth| 6u64.pow(depth)).sum());
+    assert_eq!(lists, (0..=6).map(|depth| 8u64.pow(depth)).sum());
     println!("r 2, k 1, 100 log bytes: {lists} lists");
 }
 
 #[test]
 fn every_list_of_two_cards_and_two_counters_to_depth_5() {
     let lists = runs::exhaustive(2, 2, 300, 5);
-    assert_eq!(lists, (0..=5).map(|depth| 10u64.pow(depth)).sum());
+    assert_eq!(lists, (0..=5).map(|depth| 14u64.pow(depth)).sum());
     println!("r 2, k 2: {lists} lists");
 }
 
 #[test]
 fn every_list_of_three_cards_to_depth_5() {
     let lists = runs::exhaustive(3, 1, 300, 5);
-    assert_eq!(lists, (0..=5).map(|depth| 12u64.pow(depth)).sum());
+    assert_eq!(lists, (0..=5).map(|depth| 15u64.pow(depth)).sum());
     println!("r 3, k 1: {lists} lists");
 }

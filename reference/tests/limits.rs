@@ -3,9 +3,10 @@
 
 use std::fmt::Debug;
 
-use yelansub_reference::chassis::{self, Buffers, Step};
+use yelansub_reference::chassis::{self, Answer, Buffers, Step};
 use yelansub_reference::differential::generate::Draft;
-use yelansub_reference::differential::{number, reading, sent, taken};
+use yelansub_reference::differential::{cleared, number, reading, taken};
+use yelansub_reference::differential::{Sending, CLEAR, COUNT, READ_AND_CLEAR, SENDING};
 use yelansub_reference::limits::*;
 use yelansub_reference::replica::{self, entry_at, increments_at, messages_at};
 use yelansub_reference::replica::{CARDS_AT, COUNTERS_AT, OWN_AT};
@@ -45,22 +46,12 @@ fn read(words: &[u64], counter: u64) -> library::Reading {
     answer
 }
 
-type Library = fn(&mut [u64], u64, &mut [u8]) -> library::Sent;
-type Reference = fn(&mut [u64], u64, &mut [u8]) -> Result<replica::Sent, u64>;
-const COUNT: (Library, Reference) = (library::count, replica::count);
-const CLEAR: (Library, Reference) = (library::clear, replica::clear);
-
 /// With an output of `room` bytes.
-fn send(
-    call: (Library, Reference),
-    words: &mut Vec<u64>,
-    counter: u64,
-    room: usize,
-) -> library::Sent {
+fn send(call: &Sending, words: &mut Vec<u64>, counter: u64, room: usize) -> library::Cleared {
     let before = (words.clone(), vec![9; room]);
     let (mut ours, mut theirs) = (before.clone(), before.clone());
-    let answer = call.0(&mut theirs.0, counter, &mut theirs.1);
-    let due = sent(call.1(&mut ours.0, counter, &mut ours.1));
+    let answer = (call.theirs)(&mut theirs.0, counter, &mut theirs.1);
+    let due = cleared((call.ours)(&mut ours.0, counter, &mut ours.1));
     agree(&(counter, room), [answer, due], answer.number, [&theirs, &ours], &before);
     *words = theirs.0;
     answer
@@ -77,14 +68,16 @@ fn take(words: &mut Vec<u64>, bytes: &[u8]) -> u64 {
 }
 
 /// The run's number and the steps' answers; the run over records is the same.
-fn run(cards: u64, counters: u64, log_bytes: usize, steps: &[Step]) -> (u64, Vec<u64>) {
+fn run(cards: u64, counters: u64, log_bytes: usize, steps: &[Step]) -> (u64, Vec<Answer>) {
     let bytes: Vec<u8> = steps.iter().flat_map(|step| step.to_bytes()).collect();
     let (r, k, log) = (cards as usize, counters as usize, log_bytes as u64);
-    let before = (vec![9; r * replica_words(r, k)], vec![9; r * log_bytes], vec![9; steps.len()]);
+    let answers = vec![[9; ANSWER_WORDS]; steps.len()];
+    let before = (vec![9; r * replica_words(r, k)], vec![9; r * log_bytes], answers);
     let on = |call: &dyn Fn(Buffers) -> u64| {
         let mut lent = before.clone();
-        let buffers = Buffers { words: &mut lent.0, logs: &mut lent.1, answers: &mut lent.2 };
-        (call(buffers), lent)
+        let answers = lent.2.as_flattened_mut();
+        let number = call(Buffers { words: &mut lent.0, logs: &mut lent.1, answers });
+        (number, lent)
     };
     let theirs = on(&|lent| library::run(cards, counters, log, &bytes, lent));
     let records = on(&|lent| library::run_records(cards, counters, log, steps, lent));
@@ -129,8 +122,9 @@ fn words_are_a_replica_within_the_limits_and_with_its_length() {
         (words[CARDS_AT], words[COUNTERS_AT], words[OWN_AT]) = (cards, counters, own);
         let due = if right { OK } else { BAD_REPLICA };
         assert_eq!(read(&words, 0).number, due, "{cards} {counters} {own}");
-        assert_eq!(send(COUNT, &mut words.clone(), 0, LONGEST_MESSAGE).number, due);
-        assert_eq!(send(CLEAR, &mut words.clone(), 0, LONGEST_MESSAGE).number, due);
+        for call in &SENDING {
+            assert_eq!(send(call, &mut words.clone(), 0, LONGEST_MESSAGE).number, due);
+        }
         let due = if right { UNREADABLE } else { BAD_REPLICA };
         assert_eq!(take(&mut words, &[]), due);
         words.push(0);
@@ -190,8 +184,9 @@ fn counters_below_k() {
     for (counter, due) in [(0, OK), (1, OK), (2, BAD_COUNTER), (u64::MAX, BAD_COUNTER)] {
         let words = replica_of_three();
         assert_eq!(read(&words, counter).number, due);
-        assert_eq!(send(COUNT, &mut words.clone(), counter, LONGEST_MESSAGE).number, due);
-        assert_eq!(send(CLEAR, &mut words.clone(), counter, LONGEST_MESSAGE).number, due);
+        for call in &SENDING {
+            assert_eq!(send(call, &mut words.clone(), counter, LONGEST_MESSAGE).number, due);
+        }
     }
     for (counter, due) in [(1, OK), (2, BAD_COUNTER), (COUNTERS - 1, BAD_COUNTER)] {
         let draft = Draft { counter: counter as u32, ..next_of_card_0() };
@@ -208,7 +203,7 @@ fn row(changes: &[(usize, u64)], well_formed: bool) {
     }
     let due = if well_formed { OK } else { BAD_ROW };
     assert_eq!(read(&words, 0).number, due, "{changes:?}");
-    for call in [COUNT, CLEAR] {
+    for call in &SENDING {
         let number = send(call, &mut words.clone(), 0, LONGEST_MESSAGE).number;
         // The own N may be MAX.
         assert!(number == due || (well_formed && number == EXHAUSTED), "{changes:?}: {number}");
@@ -260,17 +255,55 @@ fn well_formed_rows() {
 
 #[test]
 fn the_last_message_of_a_card() {
-    for call in [COUNT, CLEAR] {
+    for call in &SENDING {
         let mut words = replica_of_three();
         words[messages_at(3, 1)] = MAX - 1;
         let last = send(call, &mut words, 0, LONGEST_MESSAGE);
         assert_eq!((last.number, last.sequence), (OK, MAX));
-        assert_eq!(send(COUNT, &mut words, 0, LONGEST_MESSAGE).number, EXHAUSTED);
-        assert_eq!(send(CLEAR, &mut words, 0, LONGEST_MESSAGE).number, EXHAUSTED);
+        for next in &SENDING {
+            assert_eq!(send(next, &mut words, 0, LONGEST_MESSAGE).number, EXHAUSTED);
+        }
         assert_eq!(read(&words, 0).number, OK);
-        // 4 comes before 5.
-        assert_eq!(send(call, &mut words, 0, 0).number, EXHAUSTED);
     }
+}
+
+/// Words and arguments with every fault; without the first of them, the next is answered.
+#[test]
+fn refusals_in_their_order() {
+    for call in &SENDING {
+        let mut words = replica_of_three();
+        let p = entry_at(3, 0, 0).start;
+        (words[OWN_AT], words[p], words[messages_at(3, 1)]) = (3, 5, MAX);
+        assert_eq!(send(call, &mut words, 2, 0).number, BAD_REPLICA);
+        words[OWN_AT] = 1;
+        assert_eq!(send(call, &mut words, 2, 0).number, BAD_COUNTER);
+        assert_eq!(send(call, &mut words, 0, 0).number, BAD_ROW);
+        words[p] = 3;
+        assert_eq!(send(call, &mut words, 0, 0).number, EXHAUSTED);
+        words[messages_at(3, 1)] = 10;
+        assert_eq!(send(call, &mut words, 0, 0).number, SHORT_OUTPUT);
+        assert_eq!(words, replica_of_three());
+        assert_eq!(send(call, &mut words, 0, LONGEST_MESSAGE).number, OK);
+    }
+}
+
+/// All that sixteen cards can have counted, but for the own card's last: a card with that has made
+/// its last message.
+#[test]
+fn the_largest_value_read_and_cleared() {
+    let mut words = vec![0; replica_words(MOST_CARDS, 1)];
+    assert_eq!(library::open(&mut words, CARDS, 1, 0), OK);
+    for card in 0..MOST_CARDS {
+        let most = if card == 0 { MAX - 1 } else { MAX };
+        (words[increments_at(card)], words[messages_at(MOST_CARDS, card)]) = (most, most);
+        words[entry_at(MOST_CARDS, 0, card)].copy_from_slice(&[most, 0, most]);
+    }
+    let value = CARDS * MAX - 1;
+    assert_eq!(read(&words, 0).value, value);
+    let answer = send(&READ_AND_CLEAR, &mut words, 0, LONGEST_MESSAGE);
+    let length = LONGEST_MESSAGE as u64;
+    assert_eq!(answer, library::Cleared { number: OK, value, sequence: MAX, length });
+    assert_eq!(read(&words, 0), library::Reading::default());
 }
 
 #[test]
@@ -278,7 +311,7 @@ fn the_last_increment_of_a_card() {
     let mut words = replica_of_three();
     (words[increments_at(1)], words[messages_at(3, 1)]) = (MAX - 1, MAX - 1);
     words[entry_at(3, 0, 1)].copy_from_slice(&[MAX - 1, 0, MAX - 1]);
-    assert_eq!(send(COUNT, &mut words, 0, INCREMENT_BYTES).number, OK);
+    assert_eq!(send(&COUNT, &mut words, 0, INCREMENT_BYTES).number, OK);
     assert_eq!(words[entry_at(3, 0, 1)], [MAX, 0, MAX]);
     assert_eq!(words[increments_at(1)], MAX);
     assert_eq!(read(&words, 0).number, OK);
@@ -405,7 +438,7 @@ fn clears_that_can_come_next() {
 /// is a byte too short, and taken.
 #[test]
 fn entries_of_a_clear() {
-    for entries in 0..=MOST_CARDS {
+    for (entries, call) in (0..=MOST_CARDS).flat_map(|e| [(e, CLEAR), (e, READ_AND_CLEAR)]) {
         let mut cards: Vec<Vec<u64>> = (0..MOST_CARDS as u64)
             .map(|own| {
                 let mut words = vec![0; replica_words(MOST_CARDS, MOST_COUNTERS)];
@@ -423,11 +456,16 @@ fn entries_of_a_clear() {
         assert_eq!((read.value, read.holder_count), (entries as u64, entries as u64));
         assert_eq!(read.holders, (1 << entries) - 1);
         let length = clear_bytes(entries);
-        assert_eq!(send(CLEAR, &mut words.clone(), counter, length - 1).number, SHORT_OUTPUT);
+        for short in [0, length - 1] {
+            let answer = send(&call, &mut words.clone(), counter, short);
+            assert_eq!((answer.number, answer.value), (SHORT_OUTPUT, 0));
+        }
         let mut bytes = vec![0; length];
-        let made = library::clear(&mut words.clone(), counter, &mut bytes);
-        assert_eq!((made.number, made.length), (OK, length as u64));
-        assert_eq!(send(CLEAR, words, counter, length), made);
+        let made = (call.theirs)(&mut words.clone(), counter, &mut bytes);
+        let value = if call.kind == STEP_READ_AND_CLEAR { read.value } else { 0 };
+        assert_eq!((made.number, made.value, made.length), (OK, value, length as u64));
+        assert_eq!(send(&call, &mut words.clone(), counter, length + 1), made);
+        assert_eq!(send(&call, words, counter, length), made);
         // Card 1, where it has had nothing but card 0's counts.
         let words = &mut cards[1];
         words[messages_at(MOST_CARDS, 0)] = made.sequence - 1;
@@ -449,7 +487,7 @@ fn outputs_of_an_increment() {
         (INCREMENT_BYTES, OK),
         (INCREMENT_BYTES + 1, OK),
     ] {
-        let answer = send(COUNT, &mut replica_of_three(), 0, room);
+        let answer = send(&COUNT, &mut replica_of_three(), 0, room);
         let length = if due == OK { INCREMENT_BYTES as u64 } else { 0 };
         assert_eq!((answer.number, answer.length), (due, length));
     }
@@ -459,17 +497,24 @@ fn outputs_of_an_increment() {
 
 #[test]
 fn numbers_of_a_step() {
-    let answer = |step: Step| {
+    let both_words = |step: Step| {
         let (number, answers) = run(2, 2, LONGEST_MESSAGE, &[Step::count(0, 0), step]);
-        assert_eq!((number, answers[0]), (OK, OK));
+        assert_eq!((number, answers[0]), (OK, [OK, 0]));
         answers[1]
+    };
+    let answer = |step: Step| {
+        let [number, value] = both_words(step);
+        assert_eq!(value, 0, "{step:?}");
+        number
     };
     for kind in (0..9).chain([u32::MAX]) {
         let due = if STEP_KINDS.contains(&kind) { OK } else { BAD_KIND };
         // Card 1 and counter 0, or to card 1 from card 0.
         assert_eq!(answer(Step { kind, first: 1, second: 0 }), due, "{kind}");
     }
-    for call in [Step::count, Step::clear] {
+    assert_eq!(both_words(Step::read_and_clear(0, 0)), [OK, 1]);
+    assert_eq!(both_words(Step::clear(0, 0)), [OK, 0]);
+    for call in [Step::count, Step::clear, Step::read_and_clear] {
         assert_eq!(answer(call(1, 1)), OK);
         assert_eq!(answer(call(2, 1)), BAD_CARD);
         assert_eq!(answer(call(u32::MAX, 1)), BAD_CARD);
@@ -490,8 +535,32 @@ fn steps_are_whole() {
     for (extra, due) in [(0, OK), (1, BAD_SIZES), (STEP_BYTES - 1, BAD_SIZES)] {
         let steps = [&Step::count(0, 0).to_bytes()[..], &vec![0; extra]].concat();
         let (mut words, mut logs) = (vec![9; replica_words(1, 1)], vec![9; INCREMENT_BYTES]);
-        let lent = Buffers { words: &mut words, logs: &mut logs, answers: &mut [9] };
+        let mut answers = [9; ANSWER_WORDS];
+        let lent = Buffers { words: &mut words, logs: &mut logs, answers: &mut answers };
         assert_eq!(library::run(1, 1, INCREMENT_BYTES as u64, &steps, lent), due);
+    }
+}
+
+#[test]
+fn answers_of_two_words_for_each_step() {
+    let list = [Step::count(0, 0), Step::read_and_clear(0, 0), Step::clear(0, 0)];
+    let log = LONGEST_MESSAGE as u64;
+    for steps in (0..=list.len()).map(|len| &list[..len]) {
+        let bytes: Vec<u8> = steps.iter().flat_map(|step| step.to_bytes()).collect();
+        for len in 0..=ANSWER_WORDS * (steps.len() + 1) {
+            let due = if len == 2 * steps.len() { OK } else { BAD_SIZES };
+            let before = (vec![9; replica_words(1, 1)], vec![9; LONGEST_MESSAGE], vec![9; len]);
+            let on = |call: &dyn Fn(Buffers) -> u64| {
+                let mut lent = before.clone();
+                let (words, logs, answers) = (&mut lent.0, &mut lent.1, &mut lent.2);
+                assert_eq!(call(Buffers { words, logs, answers }), due, "{len}, {steps:?}");
+                assert_eq!(lent == before, due != OK, "{len}, {steps:?}");
+            };
+            on(&|lent| library::run(1, 1, log, &bytes, lent));
+            on(&|lent| library::run_records(1, 1, log, steps, lent));
+            on(&|lent| number(chassis::run(1, 1, log, &bytes, lent)));
+            on(&|lent| number(chassis::run_records(1, 1, log, steps, lent)));
+        }
     }
 }
 
@@ -499,15 +568,17 @@ fn steps_are_whole() {
 fn logs_that_are_just_long_enough() {
     let count = Step::count(0, 0);
     let last = |log_bytes: usize, steps: &[Step]| *run(2, 1, log_bytes, steps).1.last().unwrap();
-    assert_eq!(last(INCREMENT_BYTES - 1, &[count]), LOG_FULL);
-    assert_eq!(last(INCREMENT_BYTES, &[count]), OK);
-    assert_eq!(last(2 * INCREMENT_BYTES - 1, &[count, count]), LOG_FULL);
-    assert_eq!(last(2 * INCREMENT_BYTES, &[count, count]), OK);
-    assert_eq!(last(clear_bytes(0) - 1, &[Step::clear(1, 0)]), LOG_FULL);
-    assert_eq!(last(clear_bytes(0), &[Step::clear(1, 0)]), OK);
-    let steps = [count, Step::deliver(1, 0), Step::clear(1, 0)];
-    assert_eq!(last(clear_bytes(1) - 1, &steps), LOG_FULL);
-    assert_eq!(last(clear_bytes(1), &steps), OK);
+    assert_eq!(last(INCREMENT_BYTES - 1, &[count]), [LOG_FULL, 0]);
+    assert_eq!(last(INCREMENT_BYTES, &[count]), [OK, 0]);
+    assert_eq!(last(2 * INCREMENT_BYTES - 1, &[count, count]), [LOG_FULL, 0]);
+    assert_eq!(last(2 * INCREMENT_BYTES, &[count, count]), [OK, 0]);
+    for (clear, value) in [(Step::clear(1, 0), 0), (Step::read_and_clear(1, 0), 1)] {
+        assert_eq!(last(clear_bytes(0) - 1, &[clear]), [LOG_FULL, 0]);
+        assert_eq!(last(clear_bytes(0), &[clear]), [OK, 0]);
+        let steps = [count, Step::deliver(1, 0), clear];
+        assert_eq!(last(clear_bytes(1) - 1, &steps), [LOG_FULL, 0]);
+        assert_eq!(last(clear_bytes(1), &steps), [OK, value]);
+    }
 }
 
 #[test]

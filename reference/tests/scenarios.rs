@@ -17,16 +17,22 @@ const fn clear(card: u32, counter: u32) -> Step {
     Step::clear(card, counter)
 }
 
+const fn read_and_clear(card: u32, counter: u32) -> Step {
+    Step::read_and_clear(card, counter)
+}
+
 /// To the first card, from the second.
 const fn deliver(receiver: u32, sender: u32) -> Step {
     Step::deliver(receiver, sender)
 }
 
-/// Every card's words after a run in which each step was accepted.
+/// Every card's words and log after a run in which each step was accepted, and the values read.
 struct After {
     cards: usize,
     counters: usize,
     words: Vec<u64>,
+    logs: Vec<u8>,
+    values: Vec<u64>,
 }
 
 fn after(cards: usize, counters: usize, steps: &[Step]) -> After {
@@ -34,16 +40,19 @@ fn after(cards: usize, counters: usize, steps: &[Step]) -> After {
     let (r, k) = (cards as u64, counters as u64);
     let mut words = vec![9; cards * replica_words(cards, counters)];
     let mut logs = vec![9; cards * LOG_BYTES];
-    let mut answers = vec![9; steps.len()];
+    let mut answers = vec![[9; ANSWER_WORDS]; steps.len()];
     let (mut our_words, mut our_logs, mut our_answers) =
         (words.clone(), logs.clone(), answers.clone());
-    let lent = Buffers { words: &mut our_words, logs: &mut our_logs, answers: &mut our_answers };
+    let flat = our_answers.as_flattened_mut();
+    let lent = Buffers { words: &mut our_words, logs: &mut our_logs, answers: flat };
     chassis::run(r, k, LOG_BYTES as u64, &bytes, lent).unwrap();
-    let lent = Buffers { words: &mut words, logs: &mut logs, answers: &mut answers };
+    let flat = answers.as_flattened_mut();
+    let lent = Buffers { words: &mut words, logs: &mut logs, answers: flat };
     assert_eq!(library::run(r, k, LOG_BYTES as u64, &bytes, lent), OK);
-    assert!(answers.iter().all(|answer| *answer == OK), "{answers:?}");
+    assert!(answers.iter().all(|[number, _]| *number == OK), "{answers:?}");
     assert!(words == our_words && logs == our_logs && answers == our_answers);
-    After { cards, counters, words }
+    let values = answers.iter().map(|[_, value]| *value).collect();
+    After { cards, counters, words, logs, values }
 }
 
 impl After {
@@ -96,6 +105,17 @@ fn the_listing() {
     assert_eq!(listing(&input[..7]), "refused,11\r\n");
 }
 
+/// The same with a step of kind 4: it answers the drop that card 1 had seen, and leaves what the
+/// clear leaves.
+#[test]
+fn the_listing_by_read_and_clear() {
+    let (cleared, mut list) = (after(2, 1, &LISTED), LISTED);
+    list[2] = read_and_clear(1, 0);
+    let run = after(2, 1, &list);
+    assert_eq!((&cleared.values[..], &run.values[..]), (&[0; 4][..], &[0, 0, 1, 0][..]));
+    assert_eq!((run.words, run.logs), (cleared.words, cleared.logs));
+}
+
 #[test]
 fn the_clear_comes_back_after_a_second_count() {
     let mut list = LISTED.to_vec();
@@ -141,11 +161,27 @@ fn a_start_after_an_own_clear() {
 }
 
 #[test]
+fn two_counts_read_and_cleared() {
+    let run = after(1, 1, &[count(0, 0), count(0, 0), read_and_clear(0, 0)]);
+    assert_eq!((&run.values[..], run.read(0, 0)), (&[0, 0, 2][..], (0, 0)));
+}
+
+#[test]
 fn a_clear_of_nothing() {
     let mut words = fresh(2, 1, 0);
     let mut out = [0; clear_bytes(0)];
     let sent = library::clear(&mut words, 0, &mut out);
     assert_eq!(sent, library::Sent { number: OK, sequence: 1, length: clear_bytes(0) as u64 });
+    assert_eq!((words[increments_at(0)], words[messages_at(2, 0)]), (0, 1), "C and N of card 0");
+}
+
+#[test]
+fn a_read_and_clear_of_nothing() {
+    let mut words = fresh(2, 1, 0);
+    let mut out = [0; clear_bytes(0)];
+    let cleared = library::read_and_clear(&mut words, 0, &mut out);
+    let length = out.len() as u64;
+    assert_eq!(cleared, library::Cleared { number: OK, value: 0, sequence: 1, length });
     assert_eq!((words[increments_at(0)], words[messages_at(2, 0)]), (0, 1), "C and N of card 0");
 }
 
@@ -223,11 +259,11 @@ fn bytes_past_a_cards_own_messages_are_no_message() {
     let mut logs = [&foreign[..], &foreign].concat();
     let steps = deliver(1, 0).to_bytes();
     let mut words = vec![0; 2 * replica_words(2, 1)];
-    let mut answers = [0];
+    let mut answers = [9; ANSWER_WORDS];
     assert_eq!(library::waiting(&foreign, 1).length, foreign.len() as u64);
     let lent = Buffers { words: &mut words, logs: &mut logs, answers: &mut answers };
     assert_eq!(library::run(2, 1, foreign.len() as u64, &steps, lent), OK);
-    assert_eq!(answers, [NOTHING_WAITING]);
+    assert_eq!(answers, [NOTHING_WAITING, 0]);
     assert_eq!(logs, [&foreign[..], &foreign].concat());
 }
 
@@ -237,6 +273,7 @@ fn nothing_lent() {
     assert_eq!(library::read(&[], 0).number, BAD_REPLICA);
     assert_eq!(library::count(&mut [], 0, &mut []).number, BAD_REPLICA);
     assert_eq!(library::clear(&mut [], 0, &mut []).number, BAD_REPLICA);
+    assert_eq!(library::read_and_clear(&mut [], 0, &mut []).number, BAD_REPLICA);
     assert_eq!(library::take(&mut [], &[]).number, BAD_REPLICA);
     assert_eq!(library::read_message(&[]).number, UNREADABLE);
     assert_eq!(library::write_message(library::Message::default(), &mut []).number, UNREADABLE);
@@ -249,6 +286,7 @@ fn nothing_lent() {
     let mut words = fresh(2, 1, 0);
     assert_eq!(library::count(&mut words, 0, &mut []).number, SHORT_OUTPUT);
     assert_eq!(library::clear(&mut words, 0, &mut []).number, SHORT_OUTPUT);
+    assert_eq!(library::read_and_clear(&mut words, 0, &mut []).number, SHORT_OUTPUT);
     assert_eq!(library::take(&mut words, &[]).number, UNREADABLE);
     assert_eq!(run(2, &mut vec![7; 2 * words.len()]), OK);
 }

@@ -1,4 +1,4 @@
--- LAWS. How a run begins: "sizes are right" over plain lengths, with the product of the logs tested by a division; and the fresh replicas, written
+-- LAWS. How a run begins: "sizes are right" over plain lengths, with products tested by a division; and the fresh replicas, written
 -- one part after the other.
 use Prim.Native.Nat.{ℕ, suc, _+_, _*_, _/_, _%_, _≤_, _<_}
 use mathlib.Core.Path.{_≡_, refl, sym, _∙_}
@@ -18,13 +18,13 @@ use Rattle.replica_model.specs.Calls.{sizes-in-range, replica-fits, open-on}
 use Rattle.replica_model.specs.ClaimTerms.{Sizes}
 use Rattle.replica_model.specs.RowLaws.{sizes, tests}
 use Rattle.chassis_model.specs.ListParts.{put-part}
-use Rattle.chassis_model.specs.Run.{sizes-right, fresh-replicas}
+use Rattle.chassis_model.specs.Run.{answer-length, sizes-right, fresh-replicas}
 use Rattle.chassis_model.specs.FreshRun.{fresh-length}
 
 -- ---- sizes
 
 abbrev pub lengths-right : ℕ → ℕ → ℕ → ℕ → ℕ → ℕ → ℕ → Bool
-lengths-right r k L steps words logs answers = sizes-in-range r k && eqb words (r * replica-length r k) && eqb logs (r * L) && eqb answers steps
+lengths-right r k L steps words logs answers = sizes-in-range r k && eqb words (r * replica-length r k) && eqb logs (r * L) && eqb answers (answer-length * steps)
 
 pub sizes-by-length : (r k L steps : ℕ) (words logs answers : List ℕ)
     → sizes-right r k L steps words logs answers ≡ lengths-right r k L steps (length words) (length logs) (length answers)
@@ -36,7 +36,7 @@ pub record RightLengths (r k L steps words logs answers : ℕ) : Type 0 where
   pub sized : Sizes r k
   pub words-fit : words ≡ r * replica-length r k
   pub logs-fit : logs ≡ r * L
-  pub answers-fit : answers ≡ steps
+  pub answers-fit : answers ≡ answer-length * steps
 
 pub right-lengths : (r k L steps words logs answers : ℕ) → lengths-right r k L steps words logs answers ≡ true → RightLengths r k L steps words logs answers
 right-lengths r k L steps words logs answers right =

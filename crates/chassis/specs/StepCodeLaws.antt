@@ -13,10 +13,10 @@ use Rattle.protocol.specs.Limits.{most-cards, most-counters, short-output, noth
 use Rattle.protocol.specs.Checks.{Gives}
 use Rattle.protocol.specs.RoundRobin.{IsLink}
 use Rattle.wire.specs.Message.{called-length}
-use Rattle.replica_model.specs.declared.Sent.{Sent}
+use Rattle.replica_model.specs.declared.Cleared.{Cleared}
 use Rattle.replica_model.specs.declared.Taken.{Taken}
 use Rattle.replica_model.specs.Layout.{replica-length}
-use Rattle.replica_model.specs.Calls.{SendOutcome, TakeOutcome, take-on}
+use Rattle.replica_model.specs.Calls.{ClearedOutcome, TakeOutcome, take-on}
 use Rattle.chassis_model.specs.ListParts.{part, put-part}
 use Rattle.chassis_model.specs.Log.{waiting-part}
 use Rattle.chassis_model.specs.ListPartsLaws.{part-room, part-length}
@@ -52,7 +52,7 @@ pub record StepDone (sizes : Sizes) (action : Action) (words logs : List ℕ) (a
   pub given : StepReady sizes words′ logs′ places′
 
 -- a call with the rest of a log as its output
-unfoldable pub appended : Making → ℕ → List ℕ → List ℕ → ℕ → SendOutcome
+unfoldable pub appended : Making → ℕ → List ℕ → List ℕ → ℕ → ClearedOutcome
 appended making counter b log at =
     let done = call-of making counter b (drop at log) in
     record { answer = done .answer; words = done .words; out = take at log ++ done .out }
@@ -123,13 +123,13 @@ module _ (sizes : Sizes) (words logs places : List ℕ) (g : StepReady sizes wor
 
   -- ---- a message made
 
-  module _ (m : Making) (card counter at : ℕ) (sent : Sent) (b log : List ℕ) (below : card < r) (here : at ≡ getD places (link-place card card) 0)
-      (done : _≡_ {A = SendOutcome} (record { answer = sent; words = b; out = log }) (appended m counter (part size words card) (part L logs card) at)) where
-    pub made-did : (a : StepAnswer) → a ≡ answered (cond (eqb (sent .number) short-output) log-full (sent .number))
+  module _ (m : Making) (card counter at : ℕ) (sent : Cleared) (b log : List ℕ) (below : card < r) (here : at ≡ getD places (link-place card card) 0)
+      (done : _≡_ {A = ClearedOutcome} (record { answer = sent; words = b; out = log }) (appended m counter (part size words card) (part L logs card) at)) where
+    pub made-did : (a : StepAnswer) → a ≡ record { number = cond (eqb (sent .number) short-output) log-full (sent .number); value = sent .value }
         → StepDone sizes (Make m card counter) words logs a (put-part size card b words) (put-part L card log logs) (set places (link-place card card) (at + sent .length))
     unfolding made appended
     made-did a number =
-        let call : SendOutcome = call-of m counter (part (replica-length r k) words card) (drop (getD places (link-place card card) 0) (part L logs card)) in
+        let call : ClearedOutcome = call-of m counter (part (replica-length r k) words card) (drop (getD places (link-place card card) 0) (part L logs card)) in
         let now-done = rw (here, g .replica-is) at done in
         let answer-is : sent ≡ call .answer = ap (λ o. o .answer) now-done in
         let outcome : _≡_ {A = Stepped} (record { answer = a; state = state-of (put-part size card b words) (put-part L card log logs) }) (made r k L card (call-of m counter) st)

@@ -1,4 +1,5 @@
 // How a run begins: its sizes are right, and every replica is written fresh.
+use crate::stepping;
 use replica::open;
 use replica::words;
 ghost use mathlib.Core.Path.{_≡_};
@@ -33,7 +34,8 @@ pub fn sizes_are_right(
 {
     if words::are_sizes_in_range(r, k) {
         let needed = r as usize * words::replica_words(r as usize, k as usize);
-        return (words == needed) & is_product(logs as u64, r, log_bytes) & (answers == steps);
+        let answered = is_product(answers as u64, stepping::ANSWER_WORDS as u64, steps as u64);
+        return (words == needed) & is_product(logs as u64, r, log_bytes) & answered;
     }
     false
 }

@@ -8,7 +8,7 @@ use replica::clearing;
 use replica::counting;
 use replica::take;
 use replica::words;
-use replica_model::Sent;
+use replica_model::Cleared;
 use wire::decode;
 ghost use mathlib.Core.Path.{_≡_};
 ghost use mathlib.Core.Bool.{cond};
@@ -20,7 +20,7 @@ ghost use lib.Dec.{eqb};
 ghost use Rattle.protocol.specs.Limits.{most-cards, short-output, log-full};
 ghost use Rattle.protocol.specs.RoundRobin.{IsLink};
 ghost use Rattle.wire.specs.Message.{clear-length, called-length};
-ghost use Rattle.replica_model.specs.Calls.{SendOutcome};
+ghost use Rattle.replica_model.specs.Calls.{ClearedOutcome};
 ghost use Rattle.chassis_model.specs.Run.{action-of, call-of, N-at, answered, answer-words, answer-length};
 ghost use Rattle.chassis_model.specs.Places.{link-place, links};
 ghost use Rattle.chassis.specs.PartOf.{PartOf};
@@ -32,8 +32,12 @@ const CLEAR: u32 = 2;
 
 const DELIVER: u32 = 3;
 
+const READ_AND_CLEAR: u32 = 4;
+
 // How many words a step's answer takes.
-const ANSWER_WORDS: usize = 1;
+pub const ANSWER_WORDS: usize = 2;
+
+const VALUE_AT: usize = 1;
 
 const MOST_CARDS: usize = protocol::MOST_CARDS as usize;
 
@@ -54,14 +58,17 @@ fn action_of(s: Step) -> Action
     if kind == DELIVER {
         return Action::Deliver(s.first, s.second);
     }
+    if kind == READ_AND_CLEAR {
+        return Action::Make(Making::ReadAndClear, s.first, s.second);
+    }
     Action::Nothing
 }
 
-// A step's answer that is a number and nothing else.
+// A step's answer that is a number and no value.
 fn answered(number: u64) -> StepAnswer
     ensures { λ a. ⌜ a ≡ answered number ⌝ }
 {
-    StepAnswer { number }
+    StepAnswer { number, value: 0 }
 }
 
 // Lays the answer of step i into its words.
@@ -71,6 +78,7 @@ fn lay(answer: StepAnswer, i: usize, answers: &mut [u64])
 {
     let at = i * ANSWER_WORDS;
     answers[at] = answer.number;
+    answers[at + VALUE_AT] = answer.value;
 }
 
 // Where the place of a link is kept.
@@ -81,19 +89,21 @@ fn link(receiver: usize, sender: usize) -> usize
     MOST_CARDS * receiver + sender
 }
 
-fn send(making: Making, replica: &mut [u64], counter: u64, out: &mut [u8]) -> Sent
-    ensures { λ a. ⌜ _≡_ {A = SendOutcome} (record { answer = a; words = now (replica .exit); out = now (out .exit) }) (call-of making counter (now (replica .entry)) (now (out .entry))) ⌝ }
+// The message, and the value that is read: 0 for a count and a clear.
+fn send(making: Making, replica: &mut [u64], counter: u64, out: &mut [u8]) -> Cleared
+    ensures { λ a. ⌜ _≡_ {A = ClearedOutcome} (record { answer = a; words = now (replica .exit); out = now (out .exit) }) (call-of making counter (now (replica .entry)) (now (out .entry))) ⌝ }
 {
     match making {
-        Making::Count => counting::count(replica, counter, out),
-        Making::Clear => clearing::clear(replica, counter, out),
+        Making::Count => clearing::beside(0, counting::count(replica, counter, out)),
+        Making::Clear => clearing::beside(0, clearing::clear(replica, counter, out)),
+        Making::ReadAndClear => clearing::read_and_clear(replica, counter, out),
     }
 }
 
 // The message goes to the log from `at` on.
-fn append(making: Making, replica: &mut [u64], counter: u64, log: &mut [u8], at: usize) -> Sent
+fn append(making: Making, replica: &mut [u64], counter: u64, log: &mut [u8], at: usize) -> Cleared
     requires { ⌜ at ≤ length (now log) ⌝ }
-    ensures { λ a. ⌜ _≡_ {A = SendOutcome} (record { answer = a; words = now (replica .exit); out = now (log .exit) }) (appended making counter (now (replica .entry)) (now (log .entry)) at) ⌝ }
+    ensures { λ a. ⌜ _≡_ {A = ClearedOutcome} (record { answer = a; words = now (replica .exit); out = now (log .exit) }) (appended making counter (now (replica .entry)) (now (log .entry)) at) ⌝ }
 {
     send(making, replica, counter, &mut log[at..])
 }
@@ -135,7 +145,10 @@ fn make(
         at as usize,
     );
     places[own] = at + sent.length;
-    answered(step_number(sent.number))
+    StepAnswer {
+        number: step_number(sent.number),
+        value: sent.value,
+    }
 }
 
 // N of `sender` in the replica of card `card`.

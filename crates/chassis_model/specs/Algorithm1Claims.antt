@@ -11,7 +11,7 @@ use Rattle.protocol.specs.InARow.{instance}
 use Rattle.replica_model.specs.Layout.{replica-length, C-of, entry-of}
 use Rattle.replica_model.specs.Calls.{sizes-in-range, read-on}
 use Rattle.chassis_model.specs.ListParts.{part}
-use Rattle.chassis_model.specs.Run.{Step, sizes-right, run-on}
+use Rattle.chassis_model.specs.Run.{Step, numbers-in, sizes-right, run-on}
 use Rattle.chassis_model.specs.Ledger.{ledger-step}
 use Rattle.chassis_model.specs.Driver.{Call, opened, numbers, cards-after, GenuineHistory, call-step}
 use Rattle.chassis_model.specs.Algorithm1Of.{algorithm-1-of}
@@ -25,7 +25,7 @@ pub algorithm-1-in-every-run : (r k L : ℕ) (steps : List Step) (words logs ans
     → (i j q : ℕ) → i < r → j < r → q < k
     → let after = run-on r k L steps words logs answers in
     let b = part (replica-length r k) (after .words) i in
-    let paper = algorithm-1-of r (map ledger-step steps) (after .answers) .replica i in
+    let paper = algorithm-1-of r (map ledger-step steps) (numbers-in (after .answers)) .replica i in
     (C-of b j ≡ paper .C j) × (slot-of (entry-of r b q j) ≡ paper .M q j) × (read-on b q .value ≡ value r (instance q paper))
 algorithm-1-in-every-run r k L steps words logs answers right i j q hi hj hq =
     let t = theory-run r k L steps words logs answers right in

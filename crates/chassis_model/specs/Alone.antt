@@ -8,10 +8,10 @@ use lib.Dec.{eqb}
 use Rattle.wire.specs.Message.{message-at}
 use Rattle.replica_model.specs.Layout.{N-of}
 use Rattle.chassis_model.specs.Log.{waiting-part}
-use Rattle.chassis_model.specs.Run.{Step, Action, Make, Deliver, Nothing, action-of, State, log-of, N-at, step-on}
+use Rattle.chassis_model.specs.Run.{Step, Action, Make, Deliver, Nothing, action-of, State, StepAnswer, log-of, N-at, step-on}
 use Rattle.chassis_model.specs.Ledger.{was-accepted}
 use Rattle.chassis_model.specs.Answers.{fresh-state}
-use Rattle.chassis_model.specs.Driver.{Call, make, take, Cards, opened, called, number-of}
+use Rattle.chassis_model.specs.Driver.{Call, make, take, Cards, opened, called, number-of, value-of}
 
 -- ---- of a run
 
@@ -22,15 +22,19 @@ module _ (r k L : ℕ) where
   of-counter q (Deliver i s) st = eqb (message-at (waiting-part (suc (N-at r k L st i s)) (log-of r k L st s)) .counter) q
   of-counter q Nothing st = false
 
-  -- q's own steps of a list, run from st
-  unfoldable pub own-steps-from : ℕ → List Step → State → List Step
-  own-steps-from q [] st = []
-  own-steps-from q (s ∷ ss) st =
+  -- of each of q's own steps of a list, run from st: what f gives for it and its answer
+  unfoldable pub own-from : {A : Type 0} → (Step → StepAnswer → A) → ℕ → List Step → State → List A
+  own-from f q [] st = []
+  own-from f q (s ∷ ss) st =
       let done = step-on r k L s st in
-      cond (was-accepted (done .answer .number) && of-counter q (action-of s) st) (s ∷ []) [] ++ own-steps-from q ss (done .state)
+      cond (was-accepted (done .answer .number) && of-counter q (action-of s) st) (f s (done .answer) ∷ []) [] ++ own-from f q ss (done .state)
 
+  -- the steps themselves, and the values that they answered
   abbrev pub own-steps : ℕ → List Step → List ℕ → List Step
-  own-steps q steps logs = own-steps-from q steps (fresh-state r k L logs)
+  own-steps q steps logs = own-from (λ s a. s) q steps (fresh-state r k L logs)
+
+  abbrev pub own-values : ℕ → List Step → List ℕ → List ℕ
+  own-values q steps logs = own-from (λ s a. a .value) q steps (fresh-state r k L logs)
 
 -- ---- of a driver's history
 
@@ -39,14 +43,18 @@ abbrev pub call-counter : Call → ℕ
 call-counter (make m i q out) = q
 call-counter (take i bytes) = message-at bytes .counter
 
--- q's own calls of a list, made from st on
-unfoldable pub own-calls-from : ℕ → List Call → Cards → List Call
-own-calls-from q [] st = []
-own-calls-from q (c ∷ cs) st =
-    cond (was-accepted (number-of c st) && eqb (call-counter c) q) (c ∷ []) [] ++ own-calls-from q cs (called c st)
+-- of each of q's own calls of a list, made from st on: what f gives for it and the value that it answered
+unfoldable pub own-calls-from : {A : Type 0} → (Call → ℕ → A) → ℕ → List Call → Cards → List A
+own-calls-from f q [] st = []
+own-calls-from f q (c ∷ cs) st =
+    cond (was-accepted (number-of c st) && eqb (call-counter c) q) (f c (value-of c st) ∷ []) [] ++ own-calls-from f q cs (called c st)
 
+-- the calls themselves, and the values
 abbrev pub own-calls : ℕ → ℕ → ℕ → List Call → List Call
-own-calls r k q calls = own-calls-from q calls (opened r k)
+own-calls r k q calls = own-calls-from (λ c v. c) q calls (opened r k)
+
+abbrev pub own-call-values : ℕ → ℕ → ℕ → List Call → List ℕ
+own-call-values r k q calls = own-calls-from (λ c v. v) q calls (opened r k)
 
 -- A call again, on cards that have come another way: the same count or clear, and for a take of one of card s's messages the one whose turn it is there.
 -- (Its bytes are others: p and c depend on all counters.)

@@ -16,22 +16,25 @@ use Rattle.wire.specs.Message as form
 use Rattle.wire.specs.Message.{header-bytes, increment-bytes, entry-bytes, entries-bytes, clear-bytes, message-bytes, header-in-range, increment-in-range, clear-in-range, entry-in-range, entries-in-range, unused, in-range, increment-message, entries-at, called-length, message-at, reads, front-length}
 use Rattle.replica_model.specs.Layout.{fresh-words}
 use Rattle.replica_model.specs.Calls as calls
-use Rattle.replica_model.specs.Calls.{sizes-in-range, right, row-well-formed, reading, read-on, count-on, clear-on, take-on, replica-fits, send-with, words-after, take-with}
+use Rattle.replica_model.specs.Calls.{sizes-in-range, right, row-well-formed, reading, read-on, count-on, clear-on, read-and-clear-on, take-on, replica-fits, send-with, words-after, take-with}
 use Rattle.replica_model.specs.Format.{content}
 use Rattle.chassis_model.specs.ListParts.{part, put-part}
 use Rattle.chassis_model.specs.Log.{waiting-part, end-of}
 use Rattle.chassis_model.specs.Run as run
-use Rattle.chassis_model.specs.Run.{Step, action-of, call-of, State, replica-of, log-of, delivered, acted, state-after, answers-of, fresh-replicas, count-kind, clear-kind, deliver-kind}
+use Rattle.chassis_model.specs.Run.{Step, action-of, call-of, State, replica-of, log-of, delivered, acted, state-after, answers-of, fresh-replicas, count-kind, clear-kind, deliver-kind, read-and-clear-kind}
 use Rattle.chassis_model.specs.Answers.{fresh-state}
 use Rattle.chassis_model.specs.Driver as driver
 use Rattle.chassis_model.specs.Driver.{Call, opened, wrote, sent, called, number-of, numbers}
-use Rattle.chassis_model.specs.Alone.{of-counter, own-steps-from, own-steps, own-calls-from, own-calls, replayed}
+use Rattle.chassis_model.specs.Alone.{of-counter, own-from, own-steps, own-values, own-calls-from, own-calls, replayed}
 
 abbrev pub count : ℕ → ℕ → Step
 count i q = record { kind = count-kind; first = i; second = q }
 
 abbrev pub clear : ℕ → ℕ → Step
 clear i q = record { kind = clear-kind; first = i; second = q }
+
+abbrev pub read-and-clear : ℕ → ℕ → Step
+read-and-clear i q = record { kind = read-and-clear-kind; first = i; second = q }
 
 abbrev pub deliver : ℕ → ℕ → Step
 deliver i s = record { kind = deliver-kind; first = i; second = s }
@@ -46,6 +49,9 @@ answers L steps = answers-of 2 2 L steps (begins L)
 abbrev pub own : ℕ → ℕ → List Step → List Step
 own L q steps = own-steps 2 2 L q steps (replicate (2 * L) 0)
 
+abbrev pub own-answered : ℕ → ℕ → List Step → List ℕ
+own-answered L q steps = own-values 2 2 L q steps (replicate (2 * L) 0)
+
 -- the value of counter q that card i reads after the steps
 abbrev pub value-read : ℕ → List Step → ℕ → ℕ → ℕ
 value-read L steps i q = read-on (replica-of 2 2 L (state-after 2 2 L steps (begins L)) i) q .value
@@ -56,24 +62,28 @@ logged L steps n = message-at (waiting-part n (log-of 2 2 L (state-after 2 2 L s
 
 -- ---- two counters on one link: which delivery is whose
 
--- Card 1 gets counter 0's message first. It clears counter 1 before counter 1's message comes, and counter 0 after its own has come. The last delivery is declined.
+-- Card 1 gets counter 0's message first. It clears counter 1 before counter 1's message comes, and reads and clears counter 0 after
+-- its own has come, which answers 1. The last delivery is declined.
 abbrev pub linked : List Step
-linked = count 0 0 ∷ count 0 1 ∷ deliver 1 0 ∷ clear 1 1 ∷ deliver 1 0 ∷ clear 1 0 ∷ deliver 1 0 ∷ []
+linked = count 0 0 ∷ count 0 1 ∷ deliver 1 0 ∷ clear 1 1 ∷ deliver 1 0 ∷ read-and-clear 1 0 ∷ deliver 1 0 ∷ []
 
 -- as if the first delivery were counter 1's
 abbrev pub mistaken : List Step
 mistaken = count 0 1 ∷ deliver 1 0 ∷ clear 1 1 ∷ []
 
 pub own-of-linked :
-    (answers 100 linked ≡ 0 ∷ 0 ∷ 0 ∷ 0 ∷ 0 ∷ 0 ∷ 13 ∷ [])
-    × (own 100 0 linked ≡ count 0 0 ∷ deliver 1 0 ∷ clear 1 0 ∷ [])
+    (answers 100 linked ≡ 0 ∷ 0 ∷ 0 ∷ 0 ∷ 0 ∷ 0 ∷ 0 ∷ 0 ∷ 0 ∷ 0 ∷ 0 ∷ 1 ∷ 13 ∷ 0 ∷ [])
+    × (own 100 0 linked ≡ count 0 0 ∷ deliver 1 0 ∷ read-and-clear 1 0 ∷ []) × (own-answered 100 0 linked ≡ 0 ∷ 0 ∷ 1 ∷ [])
+    × (answers 100 (own 100 0 linked) ≡ 0 ∷ 0 ∷ 0 ∷ 0 ∷ 0 ∷ 1 ∷ [])
     × (own 100 1 linked ≡ count 0 1 ∷ clear 1 1 ∷ deliver 1 0 ∷ [])
     × (own 100 2 linked ≡ [])
     -- it matters: alone, the right steps give card 1 its read of counter 1, and the mistaken ones do not
     × (own 100 1 linked ≡ mistaken → ⊥)
     × (value-read 100 linked 1 1 ≡ 1) × (value-read 100 (own 100 1 linked) 1 1 ≡ 1) × (value-read 100 mistaken 1 1 ≡ 0)
-unfolding put sum bits incremented cleared count-message present-entries clear-message read-value read-holders cleared-words taken-words shown number-at bytes-of header-bytes increment-bytes entry-bytes entries-bytes clear-bytes message-bytes header-in-range increment-in-range clear-in-range entry-in-range entries-in-range unused in-range increment-message entries-at called-length message-at reads front-length form.clear-message fresh-words sizes-in-range right replica-fits all-below count-below entry-well-formed card-well-formed row-well-formed tables-well-formed reading read-on send-with words-after count-on clear-on content all-entries cards-known increment-implausible entry-plausible plausible take-with part put-part waiting-part end-of action-of call-of run.made delivered acted state-after answers-of fresh-replicas of-counter own-steps-from
+unfolding put sum bits incremented cleared count-message present-entries clear-message read-value read-holders cleared-words taken-words shown number-at bytes-of header-bytes increment-bytes entry-bytes entries-bytes clear-bytes message-bytes header-in-range increment-in-range clear-in-range entry-in-range entries-in-range unused in-range increment-message entries-at called-length message-at reads front-length form.clear-message fresh-words sizes-in-range right replica-fits all-below count-below entry-well-formed card-well-formed row-well-formed tables-well-formed reading read-on send-with words-after count-on clear-on read-and-clear-on content all-entries cards-known increment-implausible entry-plausible plausible take-with part put-part waiting-part end-of action-of call-of run.made delivered acted state-after answers-of fresh-replicas of-counter own-from
 own-of-linked = (
+  refl,
+  refl,
   refl,
   refl,
   refl,
@@ -92,16 +102,16 @@ counting = count 0 0 ∷ count 0 1 ∷ []
 
 pub log-shared :
     -- 36 bytes hold one message. The second count is declined with 14, since the first one's message is there; alone it is accepted.
-    (answers 36 counting ≡ 0 ∷ 14 ∷ []) × (answers 36 (count 0 1 ∷ []) ≡ 0 ∷ [])
+    (answers 36 counting ≡ 0 ∷ 0 ∷ 14 ∷ 0 ∷ []) × (answers 36 (count 0 1 ∷ []) ≡ 0 ∷ 0 ∷ [])
     -- So what a counter's steps are answered depends on other counters' messages, and own steps are the accepted ones: counter 1 has none here.
     × (own 36 0 counting ≡ count 0 0 ∷ []) × (own 36 1 counting ≡ [])
     -- Where both messages fit, the second has sequence 2 and p 2, since the card counts its messages and its units over all counters; alone it has 1 and 1. (So a
     -- card's sequences run out, with 4, for all its counters at once.)
-    × (answers 72 counting ≡ 0 ∷ 0 ∷ [])
+    × (answers 72 counting ≡ 0 ∷ 0 ∷ 0 ∷ 0 ∷ [])
     × (logged 72 counting 2 ≡ increment-message 0 2 1 2 1) × (logged 72 (own 72 1 counting) 1 ≡ increment-message 0 1 1 1 1)
     -- The reads are the same.
     × (value-read 72 counting 0 1 ≡ 1) × (value-read 72 (own 72 1 counting) 0 1 ≡ 1)
-unfolding put sum bits incremented cleared count-message present-entries clear-message read-value read-holders cleared-words taken-words shown number-at bytes-of header-bytes increment-bytes entry-bytes entries-bytes clear-bytes message-bytes header-in-range increment-in-range clear-in-range entry-in-range entries-in-range unused in-range increment-message entries-at called-length message-at reads front-length form.clear-message fresh-words sizes-in-range right replica-fits all-below count-below entry-well-formed card-well-formed row-well-formed tables-well-formed reading read-on send-with words-after count-on clear-on content all-entries cards-known increment-implausible entry-plausible plausible take-with part put-part waiting-part end-of action-of call-of run.made delivered acted state-after answers-of fresh-replicas of-counter own-steps-from
+unfolding put sum bits incremented cleared count-message present-entries clear-message read-value read-holders cleared-words taken-words shown number-at bytes-of header-bytes increment-bytes entry-bytes entries-bytes clear-bytes message-bytes header-in-range increment-in-range clear-in-range entry-in-range entries-in-range unused in-range increment-message entries-at called-length message-at reads front-length form.clear-message fresh-words sizes-in-range right replica-fits all-below count-below entry-well-formed card-well-formed row-well-formed tables-well-formed reading read-on send-with words-after count-on clear-on read-and-clear-on content all-entries cards-known increment-implausible entry-plausible plausible take-with part put-part waiting-part end-of action-of call-of run.made delivered acted state-after answers-of fresh-replicas of-counter own-from
 log-shared = (refl, refl, refl, refl, refl, refl, refl, refl, refl)
 
 -- ---- a driver's calls
@@ -126,5 +136,5 @@ pub own-of-history :
     × (own-calls 2 2 1 history ≡ driver.count 0 1 buffer ∷ driver.take 1 second ∷ [])
     -- alone, counter 1's message has other bytes: it is card 0's first
     × (replayed 2 (own-calls 2 2 1 history) (opened 2 2) ≡ driver.count 0 1 buffer ∷ driver.take 1 (message-bytes (increment-message 0 1 1 1 1)) ∷ [])
-unfolding put sum bits incremented cleared count-message present-entries clear-message read-value read-holders cleared-words taken-words shown number-at bytes-of header-bytes increment-bytes entry-bytes entries-bytes clear-bytes message-bytes header-in-range increment-in-range clear-in-range entry-in-range entries-in-range unused in-range increment-message entries-at called-length message-at reads front-length form.clear-message fresh-words sizes-in-range right replica-fits all-below count-below entry-well-formed card-well-formed row-well-formed tables-well-formed reading read-on send-with words-after count-on clear-on content all-entries cards-known increment-implausible entry-plausible plausible take-with call-of wrote sent called number-of numbers own-calls-from replayed
+unfolding put sum bits incremented cleared count-message present-entries clear-message read-value read-holders cleared-words taken-words shown number-at bytes-of header-bytes increment-bytes entry-bytes entries-bytes clear-bytes message-bytes header-in-range increment-in-range clear-in-range entry-in-range entries-in-range unused in-range increment-message entries-at called-length message-at reads front-length form.clear-message fresh-words sizes-in-range right replica-fits all-below count-below entry-well-formed card-well-formed row-well-formed tables-well-formed reading read-on send-with words-after count-on clear-on read-and-clear-on content all-entries cards-known increment-implausible entry-plausible plausible take-with call-of wrote sent called number-of numbers own-calls-from replayed
 own-of-history = (refl, refl, refl, refl)

@@ -13,6 +13,7 @@ use Rattle.protocol.specs.Cases.{by-place, by-test}
 use Rattle.protocol.specs.Checks.{or-else, first-failing, AllPass}
 use Rattle.protocol.specs.ChecksLaws.{first-passes, all-accepts, all-first, all-second, all-append}
 use Rattle.protocol.specs.Chassis.{Message, increment, clearing}
+use Rattle.protocol.specs.Ledger.{ledger-value}
 use Rattle.protocol.specs.Alone as queues
 use Rattle.protocol.specs.Alone.{Turns, no-turns, belongs-by-turns, outline, room}
 use Rattle.protocol.specs.AloneLedgers.{same-holds, own-waits}
@@ -20,21 +21,22 @@ use Rattle.protocol.specs.AloneRuns.{RunsBeside, fresh-beside, own-done, other-
 use Rattle.protocol.specs.AcceptanceLaws.{count-cong}
 use Rattle.wire.specs.Message.{clear-length, message-bytes}
 use Rattle.replica_model.specs.Layout.{replica-length, N-of}
+use Rattle.replica_model.specs.declared.Reading.{Reading}
 use Rattle.replica_model.specs.Calls.{left-checks, read-on}
 use Rattle.replica_model.specs.Format.{on-wire, size-of}
 use Rattle.replica_model.specs.FormatLaws.{on-wire-length}
 use Rattle.chassis_model.specs.LogLaws.{log-bytes, free-place}
 use Rattle.chassis_model.specs.Numbered.{numbered, wire-log, length-numbered}
-use Rattle.chassis_model.specs.Run.{Making, Action, Make, Deliver, Nothing, Step, action-of, State, replica-of, step-on, state-after, answers-of, sizes-right, run-on}
-use Rattle.chassis_model.specs.Answers.{fresh-state, message-size, step-size, due-checks}
-use Rattle.chassis_model.specs.Ledger.{ledger-action, ledger-step, accepted-of}
-use Rattle.chassis_model.specs.Alone.{own-steps}
-use Rattle.chassis_model.specs.AloneQueues.{queued-steps, own-steps-are}
+use Rattle.chassis_model.specs.Run.{Making, Action, Make, Deliver, Nothing, Step, action-of, State, replica-of, step-on, state-after, answers-of, numbers-in, values-in, sizes-right, run-on}
+use Rattle.chassis_model.specs.Answers.{fresh-state, message-size, step-size, due-checks, value-asked}
+use Rattle.chassis_model.specs.Ledger.{ledger-action, ledger-step, accepted-of, ledger-reading}
+use Rattle.chassis_model.specs.Alone.{own-steps, own-values}
+use Rattle.chassis_model.specs.AloneQueues.{queued-steps, queued-from, own-from-is, own-steps-are}
 use Rattle.chassis_model.specs.InStep.{CardsAt, reached-N, own-N}
 use Rattle.chassis_model.specs.Matches.{RunAt, run-at, run-cards, log-in, N-in, free-in}
 use Rattle.chassis_model.specs.Makings.{making, making-belongs}
 use Rattle.chassis_model.specs.StepLaws.{accepted-enabled, accepted-leaves, declined-leaves}
-use Rattle.chassis_model.specs.AnswerLaws.{due-distinct, action-due}
+use Rattle.chassis_model.specs.AnswerLaws.{due-distinct, action-due, accepted-value}
 use Rattle.chassis_model.specs.Reads.{read-matches}
 use Rattle.chassis_model.specs.TheoryReads.{same-reading}
 use Rattle.chassis_model.specs.FreshRun.{fresh-matches}
@@ -81,6 +83,17 @@ pub same-reads-beside : {r k : ℕ} (q : ℕ) (turns : Turns) (now alone : Cards
     → (i : ℕ) → i < r → q < k → read-on (alone .replicas i) q ≡ read-on (now .replicas i) q
 same-reads-beside {r} q turns now alone b i hi hq =
     read-matches alone i q hi hq ∙ same-reading r i (now .ledgers q) (alone .ledgers q) (b .ledgers .sets) ∙ sym (read-matches now i q hi hq)
+
+-- and so is the value that an own action asks for
+pub same-asked : {r k : ℕ} (q : ℕ) (turns : Turns) (now alone : CardsAt r k) → CardsBeside q turns now alone
+    → (a : Action) → belongs-by-turns q (ledger-action a) turns ≡ true
+    → value-asked a (λ i c. ledger-value i (alone .ledgers c)) ≡ value-asked a (λ i c. ledger-value i (now .ledgers c))
+unfolding value-asked ledger-reading
+same-asked {r} q turns now alone b (Make m i c) own =
+    let is : c ≡ q = eqb-true c q (sym (making-belongs m i q c turns) ∙ own) in
+    making m .asks i i c _ _ (rw is (ap (λ (a : Reading). a .value) (same-reading r i (now .ledgers q) (alone .ledgers q) (b .ledgers .sets))))
+same-asked q turns now alone b (Deliver i s) own = refl
+same-asked q turns now alone b Nothing own = refl
 
 -- a card that has messages left has some left there
 pub more-left : {r k : ℕ} (q : ℕ) (turns : Turns) (now alone : CardsAt r k) → CardsBeside q turns now alone
@@ -141,36 +154,49 @@ module _ {r k L : ℕ} (q : ℕ) (turns : Turns) (now alone : RunAt r k L) (b : 
   accepted-too s e own =
       action-due alone q (action-of s) ∙ due-too (action-of s) (sym (action-due now q (action-of s)) ∙ e) own
 
+  -- and it answers the same value: the ledgers have the same sets of q
+  same-value : (s : Step) → step-on r k L s (now .state) .answer .number ≡ 0 → belongs-by-turns q (ledger-step s) turns ≡ true
+      → step-on r k L s (alone .state) .answer .value ≡ step-on r k L s (now .state) .answer .value
+  same-value s e own =
+      accepted-value alone q (action-of s) (accepted-too s e own)
+      ∙ same-asked q turns (run-cards now) (run-cards alone) b (action-of s) own
+      ∙ sym (accepted-value now q (action-of s) e)
+
 -- ---- a list of steps
 
--- own steps, from a state on that stands beside another: all accepted, and the reads of q at the end are the same
-pub record OwnRun (r k L q : ℕ) (ss : List Step) (st : State) (own : List Step) (st′ : State) : Type 0 where
-  pub accepts : answers-of r k L own st′ ≡ map (λ s. 0) own
+-- own steps, from a state on that stands beside another: all accepted, with the same values, and the reads of q at the end are the same
+pub record OwnRun (r k L q : ℕ) (ss : List Step) (st : State) (own : List Step) (values : List ℕ) (st′ : State) : Type 0 where
+  pub accepts : numbers-in (answers-of r k L own st′) ≡ map (λ s. 0) own
+  pub answers : values-in (answers-of r k L own st′) ≡ values
   pub reads : (i : ℕ) → i < r → q < k
       → read-on (replica-of r k L (state-after r k L own st′) i) q ≡ read-on (replica-of r k L (state-after r k L ss st) i) q
 
-module _ (r k L q : ℕ) (s : Step) (ss own : List Step) (st st′ : State) where
-  one-more : OwnRun r k L q ss (step-on r k L s st .state) own st′ → OwnRun r k L q (s ∷ ss) st own st′
+module _ (r k L q : ℕ) (s : Step) (ss own : List Step) (values : List ℕ) (st st′ : State) where
+  one-more : OwnRun r k L q ss (step-on r k L s st .state) own values st′ → OwnRun r k L q (s ∷ ss) st own values st′
   unfolding state-after
-  one-more h = record { accepts = h .accepts; reads = h .reads }
+  one-more h = record { accepts = h .accepts; answers = h .answers; reads = h .reads }
 
-  both-more : step-on r k L s st′ .answer .number ≡ 0 → OwnRun r k L q ss (step-on r k L s st .state) own (step-on r k L s st′ .state)
-      → OwnRun r k L q (s ∷ ss) st (s ∷ own) st′
-  unfolding state-after answers-of
-  both-more e h = record { accepts = rw e (ap (λ (rest : List ℕ). 0 ∷ rest) (h .accepts)); reads = h .reads }
+  both-more : (v : ℕ) → step-on r k L s st′ .answer .number ≡ 0 → step-on r k L s st′ .answer .value ≡ v
+      → OwnRun r k L q ss (step-on r k L s st .state) own values (step-on r k L s st′ .state) → OwnRun r k L q (s ∷ ss) st (s ∷ own) (v ∷ values) st′
+  unfolding state-after answers-of numbers-in values-in
+  both-more v e same h = record {
+    accepts = ap₂ (λ (n : ℕ) (rest : List ℕ). n ∷ rest) e (h .accepts);
+    answers = ap₂ (λ (n : ℕ) (rest : List ℕ). n ∷ rest) same (h .answers);
+    reads = h .reads;
+  }
 
 module _ (r k L q : ℕ) where
   abbrev FromBeside : List Step → Type 0
   FromBeside ss =
       (turns : Turns) (now alone : RunAt r k L) → CardsBeside q turns (run-cards now) (run-cards alone)
-      → OwnRun r k L q ss (now .state) (queued-steps r k L q ss (now .state) turns) (alone .state)
+      → OwnRun r k L q ss (now .state) (queued-steps r k L q ss (now .state) turns) (queued-from (λ s a. a .value) r k L q ss (now .state) turns) (alone .state)
 
   from-none : FromBeside []
-  unfolding state-after answers-of queues.own-steps
-  from-none turns now alone b = record { accepts = refl; reads = same-reads-beside q turns (run-cards now) (run-cards alone) b }
+  unfolding state-after answers-of numbers-in values-in queues.own-steps queued-from
+  from-none turns now alone b = record { accepts = refl; answers = refl; reads = same-reads-beside q turns (run-cards now) (run-cards alone) b }
 
   from-step : (s : Step) (ss : List Step) → FromBeside ss → FromBeside (s ∷ ss)
-  unfolding answers-of queues.own-steps
+  unfolding answers-of numbers-in queues.own-steps queued-from
   from-step s ss rest turns now alone b =
       let number = step-on r k L s (now .state) .answer .number in
       by-place number 0
@@ -178,14 +204,14 @@ module _ (r k L q : ℕ) where
       (λ own.
       let too = accepted-too q turns now alone b s e own in
       rw (eq-eqb number 0 e, own)
-      (both-more r k L q s ss _ (now .state) (alone .state) too
+      (both-more r k L q s ss _ _ (now .state) (alone .state) (step-on r k L s (now .state) .answer .value) too (same-value q turns now alone b s e own)
       (rest _ (run-at (accepted-leaves now s e)) (run-at (accepted-leaves alone s too))
       (own-done r q turns (now .chassis) (now .ledgers q) (alone .chassis) (alone .ledgers q) b (ledger-step s) own (accepted-enabled now s e)))))
       (λ own. rw (eq-eqb number 0 e, own)
-      (one-more r k L q s ss _ (now .state) (alone .state)
+      (one-more r k L q s ss _ _ (now .state) (alone .state)
       (rest _ (run-at (accepted-leaves now s e)) alone
       (other-done r q turns (now .chassis) (now .ledgers q) (alone .chassis) (alone .ledgers q) b (ledger-step s) own (accepted-enabled now s e))))))
-      (λ d. rw (ne-eqb number 0 d) (one-more r k L q s ss _ (now .state) (alone .state) (rest turns (run-at (declined-leaves now s d)) alone b)))
+      (λ d. rw (ne-eqb number 0 d) (one-more r k L q s ss _ _ (now .state) (alone .state) (rest turns (run-at (declined-leaves now s d)) alone b)))
 
   pub own-run : (ss : List Step) → FromBeside ss
   own-run [] = from-none
@@ -200,21 +226,27 @@ module _ (r k L q : ℕ) (steps : List Step) (words logs answers : List ℕ) (ri
   own-queued : own-steps r k L q steps logs ≡ queued-steps r k L q steps (fresh-state r k L logs) no-turns
   own-queued = own-steps-are q steps begins no-turns (λ s i d. refl)
 
+  values-queued : own-values r k L q steps logs ≡ queued-from (λ s a. a .value) r k L q steps (fresh-state r k L logs) no-turns
+  values-queued = own-from-is (λ s a. a .value) q steps begins no-turns (λ s i d. refl)
+
   pub own-steps-told : own-steps r k L q steps logs
-      ≡ queues.own-steps ledger-step q steps (accepted-of (run-on r k L steps words logs answers .answers)) no-turns
+      ≡ queues.own-steps ledger-step q steps (accepted-of (numbers-in (run-on r k L steps words logs answers .answers))) no-turns
   own-steps-told = rw (answers-are r k L steps words logs answers right) own-queued
 
 module _ (r k L q : ℕ) (steps : List Step) (words words′ logs logs′ answers answers′ : List ℕ)
     (right : sizes-right r k L (length steps) words logs answers ≡ true)
     (right′ : sizes-right r k L (length (own-steps r k L q steps logs)) words′ logs′ answers′ ≡ true) where
-  ran : OwnRun r k L q steps (fresh-state r k L logs) (own-steps r k L q steps logs) (fresh-state r k L logs′)
+  ran : OwnRun r k L q steps (fresh-state r k L logs) (own-steps r k L q steps logs) (own-values r k L q steps logs) (fresh-state r k L logs′)
   ran =
-      rw (own-queued r k L q steps words logs answers right)
+      rw (own-queued r k L q steps words logs answers right, values-queued r k L q steps words logs answers right)
       (own-run r k L q steps no-turns (begins r k L q steps words logs answers right)
       (begins r k L q (own-steps r k L q steps logs) words′ logs′ answers′ right′) (fresh-beside r q))
 
-  pub all-accepted-alone : run-on r k L (own-steps r k L q steps logs) words′ logs′ answers′ .answers ≡ map (λ s. 0) (own-steps r k L q steps logs)
-  all-accepted-alone = answers-are r k L (own-steps r k L q steps logs) words′ logs′ answers′ right′ ∙ ran .accepts
+  pub all-accepted-alone : numbers-in (run-on r k L (own-steps r k L q steps logs) words′ logs′ answers′ .answers) ≡ map (λ s. 0) (own-steps r k L q steps logs)
+  all-accepted-alone = ap numbers-in (answers-are r k L (own-steps r k L q steps logs) words′ logs′ answers′ right′) ∙ ran .accepts
+
+  pub same-values-alone : values-in (run-on r k L (own-steps r k L q steps logs) words′ logs′ answers′ .answers) ≡ own-values r k L q steps logs
+  same-values-alone = ap values-in (answers-are r k L (own-steps r k L q steps logs) words′ logs′ answers′ right′) ∙ ran .answers
 
   pub same-reads-alone : (i : ℕ) → i < r → q < k
       → read-on (part (replica-length r k) (run-on r k L (own-steps r k L q steps logs) words′ logs′ answers′ .words) i) q

@@ -13,7 +13,7 @@ use Rattle.protocol.specs.Ledger.{Ledger}
 use Rattle.protocol.specs.Chassis.{Chassis}
 use Rattle.wire.specs.Message.{message-at}
 use Rattle.replica_model.specs.Layout.{cards, counters, own-card, replica-length}
-use Rattle.replica_model.specs.Calls.{state, sizes-in-range, read-on, SendOutcome, take-on}
+use Rattle.replica_model.specs.Calls.{state, sizes-in-range, read-on, ClearedOutcome, take-on}
 use Rattle.replica_model.specs.ClaimTerms.{Right, Isolates}
 use Rattle.replica_model.specs.RowLaws.{row-from, sizes}
 use Rattle.replica_model.specs.CallsLaws.{take-decided}
@@ -79,7 +79,7 @@ module _ (r k L : ℕ) (st : State) where
   made-declined m i q d =
       let b = replica-of r k L st i in
       let out = drop (free-from r k L st i) (log-of r k L st i) in
-      ap (λ (done : SendOutcome). made-of r k L st i done .state) (making m .decided q b out .refused (λ e. d (rw e)))
+      ap (λ (done : ClearedOutcome). made-of r k L st i done .state) (making m .decided q b out .refused (λ e. d (rw e)))
       ∙ ap (λ (stepped : Stepped). stepped .state) (declined-made r k L st i (call-of m q b out .answer .number))
 
   link-declined : (i s : ℕ) → (delivered r k L i s st .answer .number ≡ 0 → ⊥) → delivered r k L i s st .state ≡ st

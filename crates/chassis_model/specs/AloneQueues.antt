@@ -19,10 +19,10 @@ use Rattle.protocol.specs.Alone.{Turns, turned, belongs-by-turns}
 use Rattle.protocol.specs.AloneTurns.{TurnsAre, belongs-is, stepped-turns}
 use Rattle.wire.specs.Message.{message-at}
 use Rattle.replica_model.specs.Layout.{N-of}
-use Rattle.chassis_model.specs.Run.{Action, Make, Deliver, Nothing, Step, action-of, State, acted, step-on, answers-of}
+use Rattle.chassis_model.specs.Run.{Action, Make, Deliver, Nothing, Step, StepAnswer, action-of, State, acted, step-on, answers-of, numbers-in}
 use Rattle.chassis_model.specs.Ledger.{ledger-action, ledger-step, was-accepted, accepted-of}
-use Rattle.chassis_model.specs.Driver.{Call, make, take, Cards, number-of, GenuineCall, Genuine, numbers, call-step}
-use Rattle.chassis_model.specs.Alone.{of-counter, own-steps-from, call-counter, own-calls-from}
+use Rattle.chassis_model.specs.Driver.{Call, make, take, Cards, called, number-of, value-of, GenuineCall, Genuine, numbers, call-step}
+use Rattle.chassis_model.specs.Alone.{of-counter, own-from, call-counter, own-calls-from}
 use Rattle.chassis_model.specs.InStep.{reached-N, made-all}
 use Rattle.chassis_model.specs.Offers.{offer}
 use Rattle.chassis_model.specs.Takes.{counter-read}
@@ -75,19 +75,39 @@ module _ {r k L : ℕ} (now : RunAt r k L) where
 
 -- q's own steps of a list, run from st, as the queues tell them
 abbrev pub queued-steps : ℕ → ℕ → ℕ → ℕ → List Step → State → Turns → List Step
-queued-steps r k L q ss st turns = queues.own-steps ledger-step q ss (accepted-of (answers-of r k L ss st)) turns
+queued-steps r k L q ss st turns = queues.own-steps ledger-step q ss (accepted-of (numbers-in (answers-of r k L ss st))) turns
 
-pub own-steps-are : {r k L : ℕ} (q : ℕ) (ss : List Step) (now : RunAt r k L) (turns : Turns) → TurnsAre turns (now .chassis)
-    → own-steps-from r k L q ss (now .state) ≡ queued-steps r k L q ss (now .state) turns
-unfolding own-steps-from queues.own-steps answers-of
-own-steps-are q [] now turns are = refl
-own-steps-are {r} {k} {L} q (s ∷ ss) now turns are =
+-- and what f gives for each and its answer
+unfoldable pub queued-from : {A : Type 0} → (Step → StepAnswer → A) → ℕ → ℕ → ℕ → ℕ → List Step → State → Turns → List A
+queued-from f r k L q [] st turns = []
+queued-from f r k L q (s ∷ ss) st turns =
+    let done = step-on r k L s st in
+    let accepted = was-accepted (done .answer .number) in
+    cond (accepted && belongs-by-turns q (ledger-step s) turns) (f s (done .answer) ∷ [])
+    [] ++ queued-from f r k L q ss (done .state) (cond accepted (turned (ledger-step s) turns) turns)
+
+queued-are : (r k L q : ℕ) (ss : List Step) (st : State) (turns : Turns) → queued-from (λ s a. s) r k L q ss st turns ≡ queued-steps r k L q ss st turns
+unfolding queued-from queues.own-steps answers-of numbers-in
+queued-are r k L q [] st turns = refl
+queued-are r k L q (s ∷ ss) st turns =
+    let accepted = was-accepted (step-on r k L s st .answer .number) in
+    ap (λ (rest : List Step). cond (accepted && belongs-by-turns q (ledger-step s) turns) (s ∷ []) [] ++ rest) (queued-are r k L q ss (step-on r k L s st .state) _)
+
+pub own-from-is : {A : Type 0} (f : Step → StepAnswer → A) {r k L : ℕ} (q : ℕ) (ss : List Step) (now : RunAt r k L) (turns : Turns) → TurnsAre turns (now .chassis)
+    → own-from r k L f q ss (now .state) ≡ queued-from f r k L q ss (now .state) turns
+unfolding own-from queued-from
+own-from-is f q [] now turns are = refl
+own-from-is {A} f {r} {k} {L} q (s ∷ ss) now turns are =
     let ok = now .matches .cards .invariants q in
     let here = step-matches now s in
-    let number = step-on r k L s (now .state) .answer .number in
-    ap₂ (λ (t : Bool) (rest : List Step). cond t (s ∷ []) [] ++ rest)
-    (picked r q (now .chassis) (now .ledgers q) ok turns are (ledger-step s) number (here .1) (of-counter r k L q (action-of s) (now .state)) (counter-is now q (action-of s)))
-    (own-steps-are q ss (run-at (here .0)) _ (next-turns r q (now .chassis) (now .ledgers q) ok turns are (ledger-step s) number (here .1)))
+    let answer = step-on r k L s (now .state) .answer in
+    ap₂ (λ (t : Bool) (rest : List A). cond t (f s answer ∷ []) [] ++ rest)
+    (picked r q (now .chassis) (now .ledgers q) ok turns are (ledger-step s) (answer .number) (here .1) (of-counter r k L q (action-of s) (now .state)) (counter-is now q (action-of s)))
+    (own-from-is f q ss (run-at (here .0)) _ (next-turns r q (now .chassis) (now .ledgers q) ok turns are (ledger-step s) (answer .number) (here .1)))
+
+pub own-steps-are : {r k L : ℕ} (q : ℕ) (ss : List Step) (now : RunAt r k L) (turns : Turns) → TurnsAre turns (now .chassis)
+    → own-from r k L (λ s a. s) q ss (now .state) ≡ queued-steps r k L q ss (now .state) turns
+own-steps-are {r} {k} {L} q ss now turns are = own-from-is (λ s a. s) q ss now turns are ∙ queued-are r k L q ss (now .state) turns
 
 -- ---- a driver's history
 
@@ -110,15 +130,34 @@ module _ {r k : ℕ} (now : DriverAt r k) where
 abbrev pub queued-calls : ℕ → List Call → Cards → Turns → List Call
 queued-calls q cs st turns = queues.own-steps call-step q cs (accepted-of (numbers cs st)) turns
 
-pub own-calls-are : {r k : ℕ} (q : ℕ) (cs : List Call) (now : DriverAt r k) → Genuine cs (now .state) → (turns : Turns) → TurnsAre turns (now .chassis)
-    → own-calls-from q cs (now .state) ≡ queued-calls q cs (now .state) turns
-unfolding own-calls-from queues.own-steps numbers
-own-calls-are q [] now g turns are = refl
-own-calls-are {r} q (c ∷ cs) now (g, gs) turns are =
+-- and what f gives for each and the value that it answered
+unfoldable pub queued-calls-from : {A : Type 0} → (Call → ℕ → A) → ℕ → List Call → Cards → Turns → List A
+queued-calls-from f q [] st turns = []
+queued-calls-from f q (c ∷ cs) st turns =
+    let accepted = was-accepted (number-of c st) in
+    cond (accepted && belongs-by-turns q (call-step c) turns) (f c (value-of c st) ∷ [])
+    [] ++ queued-calls-from f q cs (called c st) (cond accepted (turned (call-step c) turns) turns)
+
+queued-calls-are : (q : ℕ) (cs : List Call) (st : Cards) (turns : Turns) → queued-calls-from (λ c v. c) q cs st turns ≡ queued-calls q cs st turns
+unfolding queued-calls-from queues.own-steps numbers
+queued-calls-are q [] st turns = refl
+queued-calls-are q (c ∷ cs) st turns =
+    let accepted = was-accepted (number-of c st) in
+    ap (λ (rest : List Call). cond (accepted && belongs-by-turns q (call-step c) turns) (c ∷ []) [] ++ rest) (queued-calls-are q cs (called c st) _)
+
+pub own-calls-from-is : {A : Type 0} (f : Call → ℕ → A) {r k : ℕ} (q : ℕ) (cs : List Call) (now : DriverAt r k) → Genuine cs (now .state) → (turns : Turns)
+    → TurnsAre turns (now .chassis) → own-calls-from f q cs (now .state) ≡ queued-calls-from f q cs (now .state) turns
+unfolding own-calls-from queued-calls-from
+own-calls-from-is f q [] now g turns are = refl
+own-calls-from-is {A} f {r} q (c ∷ cs) now (g, gs) turns are =
     let ok = now .matches .cards .invariants q in
     let here = call-matches now c g in
     let number = number-of c (now .state) in
-    ap₂ (λ (t : Bool) (rest : List Call). cond t (c ∷ []) [] ++ rest)
+    ap₂ (λ (t : Bool) (rest : List A). cond t (f c (value-of c (now .state)) ∷ []) [] ++ rest)
     (picked r q (now .chassis) (now .ledgers q) ok turns are (call-step c) number (here .1) (eqb (call-counter c) q)
     (λ e on. ap (λ (n : ℕ). eqb n q) (call-counter-is now c g e on)))
-    (own-calls-are q cs (driver-at (here .0)) gs _ (next-turns r q (now .chassis) (now .ledgers q) ok turns are (call-step c) number (here .1)))
+    (own-calls-from-is f q cs (driver-at (here .0)) gs _ (next-turns r q (now .chassis) (now .ledgers q) ok turns are (call-step c) number (here .1)))
+
+pub own-calls-are : {r k : ℕ} (q : ℕ) (cs : List Call) (now : DriverAt r k) → Genuine cs (now .state) → (turns : Turns) → TurnsAre turns (now .chassis)
+    → own-calls-from (λ c v. c) q cs (now .state) ≡ queued-calls q cs (now .state) turns
+own-calls-are q cs now g turns are = own-calls-from-is (λ c v. c) q cs now g turns are ∙ queued-calls-are q cs (now .state) turns

@@ -1,26 +1,30 @@
 -- LAWS. Every step of a reached state gives the answer that is due (`due-answer`): by its action, and by the four outcomes of a call that makes a message.
-use Prim.Native.Nat.{ℕ, suc, _+_, _-_, _≤_, _<_}
+use Prim.Native.Nat.{ℕ, suc, _+_, _-_, _*_, _≤_, _<_}
 use mathlib.Core.Path.{_≡_, refl, sym, ap, _∙_}
-use mathlib.Core.Bool.{true, not, _&&_}
+use mathlib.Core.Logic.{_≢_}
+use mathlib.Core.Bool.{Bool, true, false, not, cond, _&&_}
 use mathlib.Core.List.{List, [], _∷_, _++_}
 use native.Mathlib.Omega.{arith}
 use lib.ListN.{length, getD, drop, length-drop}
 use lib.Dec.{leb, ltb, eqb}
-use borrow.Author.Tests.{lt-ltb, le-ltb, le-leb, lt-leb}
-use Rattle.protocol.specs.Limits.{bad-card, bad-kind, nothing-waiting}
-use Rattle.protocol.specs.Cases.{by-le, by-test}
+use borrow.Author.Tests.{lt-ltb, le-ltb, le-leb, lt-leb, ne-eqb}
+use Rattle.protocol.specs.Limits.{short-output, bad-card, bad-kind, nothing-waiting}
+use Rattle.protocol.specs.Cases.{by-le, by-test, by-place}
 use Rattle.protocol.specs.Checks.{first-failing, Gives}
 use Rattle.protocol.specs.ChecksLaws.{distinct, first-is, first-among}
 use Rattle.protocol.specs.RoundRobin.{IsLink}
-use Rattle.protocol.specs.Ledger.{Ledger, link-waits}
+use Rattle.protocol.specs.Ledger.{Ledger, link-waits, ledger-value}
 use Rattle.protocol.specs.Links.{link-waits-is}
+use Rattle.replica_model.specs.Calls.{read-on}
 use Rattle.chassis_model.specs.ListPartsLaws.{part-length}
-use Rattle.chassis_model.specs.Run.{Making, Action, Make, Deliver, Nothing, Step, action-of, call-of, State, Stepped, answered, declined, made, acted, step-on, state-after, answers-of}
-use Rattle.chassis_model.specs.Answers.{message-size, due-checks, due-answer, run-answer}
+use Rattle.chassis_model.specs.Run.{Making, Action, Make, Deliver, Nothing, Step, action-of, call-of, State, Stepped, StepAnswer, answered, answer-length, declined, replica-of, log-of, free-from, made, delivered, performed, acted, step-on, state-after, answers-of}
+use Rattle.chassis_model.specs.Ledger.{was-accepted}
+use Rattle.chassis_model.specs.Makings.{value-read}
+use Rattle.chassis_model.specs.Answers.{message-size, due-checks, value-asked, due-answer, answer-in, run-answer}
 use Rattle.chassis_model.specs.InStep.{reached-N}
 use Rattle.chassis_model.specs.Matches.{RunAt, run-cards, log-in, N-in, free-in}
-use Rattle.chassis_model.specs.StepLaws.{is-link, performed-is, declined-is, link-passes}
-use Rattle.chassis_model.specs.MadeSteps.{told-step, made-cases}
+use Rattle.chassis_model.specs.StepLaws.{is-link, acted-cases, performed-is, declined-is, link-passes}
+use Rattle.chassis_model.specs.MadeSteps.{step-number, told-step, made-cases}
 use Rattle.chassis_model.specs.DeliveredSteps.{one-delivered}
 use Rattle.chassis_model.specs.Ends.{ends-within}
 
@@ -28,6 +32,36 @@ pub due-distinct : (r k L any : ℕ) (a : Action) (st : State) (ls : ℕ → Led
 due-distinct r k L any (Make m i q) st ls = refl
 due-distinct r k L any (Deliver i s) st ls = refl
 due-distinct r k L any Nothing st ls = refl
+
+-- ---- the value that a step answers, in any state
+
+pub no-value : (accepted : Bool) → _≡_ {A = ℕ} 0 (cond accepted 0 0)
+no-value true = refl
+no-value false = refl
+
+-- a call's number and the step's are both 0 or both not
+number-none : (n : ℕ) → eqb n 0 ≡ eqb (step-number n) 0
+number-none n = by-place n short-output (λ e. rw e) (λ d. rw (ne-eqb n short-output d))
+
+module _ (r k L : ℕ) (st : State) where
+  abbrev ReadBefore : Action → StepAnswer → Type 0
+  ReadBefore a answer = answer .value ≡ cond (was-accepted (answer .number)) (value-asked a (λ i q. read-on (replica-of r k L st i) q .value)) 0
+
+  performed-value : (a : Action) → ReadBefore a (performed r k L a st .answer)
+  unfolding made delivered value-asked
+  performed-value (Make m i q) =
+      let b = replica-of r k L st i in
+      let out = drop (free-from r k L st i) (log-of r k L st i) in
+      rw (← (number-none (call-of m q b out .answer .number))) (value-read m i q b out (λ j c. read-on (replica-of r k L st j) c .value) refl)
+  performed-value (Deliver i s) = no-value (was-accepted (delivered r k L i s st .answer .number))
+  performed-value Nothing = refl
+
+  pub step-value : (s : Step) → ReadBefore (action-of s) (step-on r k L s st .answer)
+  step-value s =
+      acted-cases r k L st (λ stepped. ReadBefore (action-of s) (stepped .answer)) (action-of s)
+      (λ n some. rw (ne-eqb n 0 some)) (λ passes. performed-value (action-of s))
+
+-- ---- and what is due in a reached one
 
 module _ {r k L : ℕ} (now : RunAt r k L) (any : ℕ) where
   -- the number that is due
@@ -37,13 +71,23 @@ module _ {r k L : ℕ} (now : RunAt r k L) (any : ℕ) where
   due-is : (a : Action) (n : ℕ) → Gives (due-checks r k L any a (now .state) (now .ledgers)) n → n ≡ due a
   due-is a n gives = sym (first-is (due-checks r k L any a (now .state) (now .ledgers)) (due-distinct r k L any a (now .state) (now .ledgers)) n gives)
 
+  -- and with the value, the answer
+  abbrev due-both : Action → StepAnswer
+  due-both a = record { number = due a; value = cond (eqb (due a) 0) (value-asked a (λ i q. ledger-value i (now .ledgers q))) 0 }
+
+  refused-both : (a : Action) (n : ℕ) → n ≢ 0 → n ≡ due a → answered n ≡ due-both a
+  refused-both a n some gives = rw (← gives, ne-eqb n 0 some)
+
+  accepted-both : (a : Action) → 0 ≡ due a → record { number = 0; value = value-asked a (λ i q. ledger-value i (now .ledgers q)) } ≡ due-both a
+  accepted-both a gives = rw (← gives)
+
   -- an action that its own checks decline
-  declined-due : (a : Action) (n : ℕ) → acted r k L a (now .state) ≡ declined (now .state) n → n ≡ due a → acted r k L a (now .state) .answer .number ≡ due a
-  declined-due a n is gives = ap (λ (stepped : Stepped). stepped .answer .number) is ∙ gives
+  declined-due : (a : Action) (n : ℕ) → n ≢ 0 → acted r k L a (now .state) ≡ declined (now .state) n → n ≡ due a → acted r k L a (now .state) .answer ≡ due-both a
+  declined-due a n some is gives = ap (λ (stepped : Stepped). stepped .answer) is ∙ refused-both a n some gives
 
   -- ---- a message made
 
-  made-due : (m : Making) (i q : ℕ) → i < r → made r k L i (call-of m q) (now .state) .answer .number ≡ due (Make m i q)
+  made-due : (m : Making) (i q : ℕ) → i < r → made r k L i (call-of m q) (now .state) .answer ≡ due-both (Make m i q)
   made-due m i q hi =
       let a = Make m i q in
       let N = N-in now i i in
@@ -58,18 +102,18 @@ module _ {r k L : ℕ} (now : RunAt r k L) (any : ℕ) where
       = by-le size (length (drop used log)) (λ l. rw (le-leb size (length (drop used log)) l) (le-leb (used + size) L (omega arith)))
       (λ l. rw (lt-leb size (length (drop used log)) l) (lt-leb (used + size) L (omega arith))) in
       let is : told-step now m i q hi ≡ due a = rw (there, same) in
-      made-cases now m i q hi (λ stepped. stepped .answer .number ≡ due a)
-      (λ n some told. told ∙ is)
-      (λ told hq goes room. told ∙ is)
+      made-cases now m i q hi (λ stepped. stepped .answer ≡ due-both a)
+      (λ n some told. refused-both a n some (told ∙ is))
+      (λ told hq goes room. accepted-both a (told ∙ is))
 
-  make-due : (m : Making) (i q : ℕ) → acted r k L (Make m i q) (now .state) .answer .number ≡ due (Make m i q)
+  make-due : (m : Making) (i q : ℕ) → acted r k L (Make m i q) (now .state) .answer ≡ due-both (Make m i q)
   make-due m i q =
       let a = Make m i q in
       by-le (suc i) r
       (λ hi. rw (performed-is r k L (now .state) a (lt-ltb i r hi, tt)) (made-due m i q hi))
       (λ far.
       let no = le-ltb i r (omega arith) in
-      declined-due a bad-card (declined-is r k L (now .state) a bad-card (λ e. omega arith) no) (due-is a bad-card no))
+      declined-due a bad-card (λ e. omega arith) (declined-is r k L (now .state) a bad-card (λ e. omega arith) no) (due-is a bad-card no))
 
   -- ---- a message handed over
 
@@ -78,7 +122,8 @@ module _ {r k L : ℕ} (now : RunAt r k L) (any : ℕ) where
       rw (reached-N (run-cards now) i s hi hs, reached-N (run-cards now) s s hs hs)
       (link-waits-is r any (now .chassis) (now .ledgers any) (now .matches .cards .invariants any) i s apart)
 
-  deliver-due : (i s : ℕ) → acted r k L (Deliver i s) (now .state) .answer .number ≡ due (Deliver i s)
+  deliver-due : (i s : ℕ) → acted r k L (Deliver i s) (now .state) .answer ≡ due-both (Deliver i s)
+  unfolding value-asked
   deliver-due i s =
       let a = Deliver i s in
       by-test (ltb i r && ltb s r && not (eqb i s))
@@ -89,30 +134,40 @@ module _ {r k L : ℕ} (now : RunAt r k L) (any : ℕ) where
       (λ waits.
       let yes = lt-ltb (N-in now i s) (N-in now s s) waits in
       rw (performed-is r k L (now .state) a (link-passes r k L (now .state) i s is waits), one-delivered now i s (is .0) (is .1) waits (is .2))
-      (due-is a 0 (linked, (told ∙ yes, refl))))
+      (accepted-both a (due-is a 0 (linked, (told ∙ yes, refl)))))
       (λ none.
       let never = le-ltb (N-in now i s) (N-in now s s) (omega arith) in
-      declined-due a nothing-waiting (declined-is r k L (now .state) a nothing-waiting (λ e. omega arith) (linked, never)) (due-is a nothing-waiting (linked, told ∙ never))))
-      (λ apart. declined-due a bad-card (declined-is r k L (now .state) a bad-card (λ e. omega arith) apart) (due-is a bad-card apart))
+      declined-due a nothing-waiting (λ e. omega arith) (declined-is r k L (now .state) a nothing-waiting (λ e. omega arith) (linked, never)) (due-is a nothing-waiting (linked, told ∙ never))))
+      (λ apart. declined-due a bad-card (λ e. omega arith) (declined-is r k L (now .state) a bad-card (λ e. omega arith) apart) (due-is a bad-card apart))
 
   -- ---- every action, and every step
 
+  pub action-answer : (a : Action) → acted r k L a (now .state) .answer ≡ due-both a
+  action-answer (Make m i q) = make-due m i q
+  action-answer (Deliver i s) = deliver-due i s
+  action-answer Nothing = declined-due Nothing bad-kind (λ e. omega arith) (declined-is r k L (now .state) Nothing bad-kind (λ e. omega arith) refl) (due-is Nothing bad-kind refl)
+
   pub action-due : (a : Action) → acted r k L a (now .state) .answer .number ≡ due a
-  action-due (Make m i q) = make-due m i q
-  action-due (Deliver i s) = deliver-due i s
-  action-due Nothing = declined-due Nothing bad-kind (declined-is r k L (now .state) Nothing bad-kind (λ e. omega arith) refl) (due-is Nothing bad-kind refl)
+  action-due a = ap (λ (x : StepAnswer). x .number) (action-answer a)
+
+  -- an accepted action answers the value that it asks for
+  pub accepted-value : (a : Action) → acted r k L a (now .state) .answer .number ≡ 0
+      → acted r k L a (now .state) .answer .value ≡ value-asked a (λ i q. ledger-value i (now .ledgers q))
+  accepted-value a e = ap (λ (x : StepAnswer). x .value) (action-answer a) ∙ rw (sym (action-due a) ∙ e)
 
   pub step-answer : (s : Step) → step-on r k L s (now .state) .answer ≡ due-answer r k L any s (now .state) (now .ledgers)
   unfolding due-answer
-  step-answer s = ap (λ (n : ℕ). answered n) (action-due (action-of s))
+  step-answer s = action-answer (action-of s)
 
 -- ---- the answers of a list
 
 pub answer-at : (r k L : ℕ) (before : List Step) (s : Step) (after : List Step) (st : State)
-    → getD (answers-of r k L (before ++ s ∷ after) st) (length before) 0 ≡ step-on r k L s (state-after r k L before st) .answer .number
+    → answer-in (answers-of r k L (before ++ s ∷ after) st) (length before) ≡ step-on r k L s (state-after r k L before st) .answer
 unfolding answers-of state-after
 answer-at r k L [] s after st = refl
-answer-at r k L (x ∷ before) s after st = answer-at r k L before s after (step-on r k L x st .state)
+answer-at r k L (x ∷ before) s after st =
+    let next : answer-length * suc (length before) ≡ suc (suc (answer-length * length before)) = omega arith in
+    rw next (answer-at r k L before s after (step-on r k L x st .state))
 
 pub due-is-answer : (r k L any : ℕ) (s : Step) (st : State) (ls : ℕ → Ledger) → run-answer (due-answer r k L any s st ls .number) ≡ true
 unfolding due-answer

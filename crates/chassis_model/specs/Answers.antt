@@ -1,17 +1,18 @@
--- DEFINITIONS. What a step of a run answers, with no call named: "Run steps: 12, 7 (any card named not below r), 3 (not for deliver), 4, 14, 13".
+-- DEFINITIONS. What a step of a run answers, its number and its value, with no call named: "Run steps: 12, 7 (any card named not below r), 3 (not for deliver), 4, 14, 13".
 -- Of the words and bytes only two numbers are looked at, both of the card that makes a message: how many it has made, and how many bytes of its log they take.
-use Prim.Native.Nat.{ℕ, _+_}
+use Prim.Native.Nat.{ℕ, suc, _+_, _*_}
 use mathlib.Core.List.{List, [], _∷_, _++_}
-use mathlib.Core.Bool.{Bool, false, not, _&&_, _||_}
+use mathlib.Core.Bool.{Bool, false, not, cond, _&&_, _||_}
 use lib.Dec.{leb, ltb, eqb}
+use lib.ListN.{getD}
 use Rattle.protocol.specs.Checks.{Check, or-else, first-failing}
 use Rattle.protocol.specs.Limits.{bad-card, bad-kind, bad-counter, exhausted, nothing-waiting, log-full}
 use Rattle.protocol.specs.Ledger as ledger
-use Rattle.protocol.specs.Ledger.{Ledger, holds, link-waits}
+use Rattle.protocol.specs.Ledger.{Ledger, holds, link-waits, ledger-value}
 use Rattle.protocol.specs.Functions.{count-below}
 use Rattle.wire.specs.Message.{increment-length, clear-length}
 use Rattle.replica_model.specs.Calls.{left-checks}
-use Rattle.chassis_model.specs.Run.{Step, Making, Action, Make, Deliver, Nothing, action-of, State, StepAnswer, answered, N-at, free-from, fresh-replicas}
+use Rattle.chassis_model.specs.Run.{Step, Making, Count, Clear, ReadAndClear, Action, Make, Deliver, Nothing, action-of, State, StepAnswer, answer-length, N-at, free-from, fresh-replicas}
 use Rattle.chassis_model.specs.Ledger.{ledger-action}
 
 -- "All replicas begin fresh.": the state in which a run begins
@@ -40,8 +41,23 @@ due-checks r k L any (Make m i q) st ls =
 due-checks r k L any (Deliver i s) st ls = or-else (ltb i r && ltb s r && not (eqb i s)) bad-card ∷ or-else (link-waits i s (ls any)) nothing-waiting ∷ []
 due-checks r k L any Nothing st ls = or-else false bad-kind ∷ []
 
+-- the value that an action asks for, where `value i q` is that of counter q on card i: a read and clear asks for one, and nothing else does
+unfoldable pub value-asked : Action → (ℕ → ℕ → ℕ) → ℕ
+value-asked (Make Count i q) value = 0
+value-asked (Make Clear i q) value = 0
+value-asked (Make ReadAndClear i q) value = value i q
+value-asked (Deliver i s) value = 0
+value-asked Nothing value = 0
+
+-- "its number, then the value read, 0 for the other kinds and for declined steps". The value is the ledger's at that card
 unfoldable pub due-answer : ℕ → ℕ → ℕ → ℕ → Step → State → (ℕ → Ledger) → StepAnswer
-due-answer r k L any s st ls = answered (first-failing (due-checks r k L any (action-of s) st ls))
+due-answer r k L any s st ls =
+    let number = first-failing (due-checks r k L any (action-of s) st ls) in
+    record { number = number; value = cond (eqb number 0) (value-asked (action-of s) (λ i q. ledger-value i (ls q))) 0 }
+
+-- what the answer words of a run say of its step behind the first n
+abbrev pub answer-in : List ℕ → ℕ → StepAnswer
+answer-in answers n = record { number = getD answers (answer-length * n) 0; value = getD answers (suc (answer-length * n)) 0 }
 
 -- the answers that there are
 abbrev pub run-answer : ℕ → Bool

@@ -9,7 +9,7 @@ use Rattle.protocol.specs.History.{caught-up, plain-value}
 use Rattle.replica_model.specs.Layout.{replica-length}
 use Rattle.replica_model.specs.Calls.{sizes-in-range, read-on}
 use Rattle.chassis_model.specs.ListParts.{part}
-use Rattle.chassis_model.specs.Run.{Step, sizes-right, run-on}
+use Rattle.chassis_model.specs.Run.{Step, numbers-in, sizes-right, run-on}
 use Rattle.chassis_model.specs.Ledger.{ledger-step}
 use Rattle.chassis_model.specs.Driver.{Call, opened, numbers, cards-after, GenuineHistory, call-step}
 use Rattle.chassis_model.specs.HistoryOf.{history-of}
@@ -22,7 +22,7 @@ use Rattle.chassis_model.specs.DriverTheorem.{theory-history}
 pub caught-up-value : (r k L : ℕ) (steps : List Step) (words logs answers : List ℕ) → sizes-right r k L (length steps) words logs answers ≡ true
     → (i q : ℕ) → i < r → q < k
     → let after = run-on r k L steps words logs answers in
-    let history = history-of (map ledger-step steps) (after .answers) in
+    let history = history-of (map ledger-step steps) (numbers-in (after .answers)) in
     caught-up i history ≡ true → read-on (part (replica-length r k) (after .words) i) q .value ≡ plain-value q i history
 caught-up-value r k L steps words logs answers right = reads.caught-up-value (theory-run r k L steps words logs answers right)
 

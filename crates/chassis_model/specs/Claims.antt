@@ -5,17 +5,17 @@
 use Prim.Native.Nat.{ℕ, _/_, _%_, _<_}
 use mathlib.Core.Path.{_≡_}
 use mathlib.Core.Logic.{_↔_}
-use mathlib.Core.Bool.{true}
+use mathlib.Core.Bool.{true, cond}
 use mathlib.Core.List.{List, _∷_, _++_}
-use lib.ListN.{length, getD}
+use lib.ListN.{length}
 use Rattle.protocol.specs.Limits.{bad-sizes}
 use Rattle.wire.specs.NumberLaws.{Bytes}
 use Rattle.replica_model.specs.Layout.{replica-length, N-of}
 use Rattle.replica_model.specs.Calls.{read-on}
 use Rattle.chassis_model.specs.ListParts.{part}
-use Rattle.chassis_model.specs.Run.{Step, state-after, answers-of, sizes-right, run-on, steps-bytes, AllFit, steps-of, run-bytes-on, step-length}
-use Rattle.chassis_model.specs.Ledger.{ledger-of, ledger-reading}
-use Rattle.chassis_model.specs.Answers.{fresh-state, due-answer, run-answer}
+use Rattle.chassis_model.specs.Run.{Step, action-of, replica-of, state-after, answers-of, sizes-right, run-on, steps-bytes, AllFit, steps-of, run-bytes-on, step-length}
+use Rattle.chassis_model.specs.Ledger.{was-accepted, ledger-of, ledger-reading}
+use Rattle.chassis_model.specs.Answers.{fresh-state, value-asked, due-answer, answer-in, run-answer}
 use Rattle.chassis_model.specs.RunLaws as run-laws
 use Rattle.chassis_model.specs.StepBytesLaws as step-bytes-laws
 use Rattle.chassis_model.specs.Theorem as theorem
@@ -64,19 +64,28 @@ pub accepted-sizes-over-bytes : (r k L : ℕ) (bytes words logs answers : List �
     × ((after .number ≡ 0 → ⊥) → after ≡ record { number = bad-sizes; words = words; logs = logs; answers = answers })
 accepted-sizes-over-bytes = run-laws.accepted-sizes-over-bytes
 
--- EXACT ANSWERS. The answer of the step behind any first steps is the one that is due after them (`due-answer`): 12, 7, 3, 4, 14 and 13 exactly for their causes, and 0
--- otherwise. So a deliver step between two cards is accepted exactly when the ledger's link, of whichever counter's ledger, has something to hand over.
+-- EXACT ANSWERS. The answer of the step behind any first steps, both words of it, is the one that is due after them (`due-answer`): 12, 7, 3, 4, 14 and 13 exactly for
+-- their causes, and 0 otherwise; and the ledger's value for an accepted read and clear, 0 for everything else. So a deliver step between two cards is accepted exactly when the ledger's link, of whichever counter's ledger, has something to hand over.
 pub step-answers : (r k L : ℕ) (before : List Step) (s : Step) (after : List Step) (words logs answers : List ℕ)
     → sizes-right r k L (length (before ++ s ∷ after)) words logs answers ≡ true
     → (any : ℕ)
-    → getD (run-on r k L (before ++ s ∷ after) words logs answers .answers) (length before) 0
-    ≡ due-answer r k L any s (state-after r k L before (fresh-state r k L logs)) (λ q. ledger-of r q before (answers-of r k L before (fresh-state r k L logs))) .number
+    → answer-in (run-on r k L (before ++ s ∷ after) words logs answers .answers) (length before)
+    ≡ due-answer r k L any s (state-after r k L before (fresh-state r k L logs)) (λ q. ledger-of r q before (answers-of r k L before (fresh-state r k L logs)))
 step-answers = theorem.step-answers
 
--- No step of a run answers anything but 0, 3, 4, 7, 12, 13 or 14.
+-- THE VALUE ANSWERED. The second answer word of a step is 0 unless it is an accepted read and clear; then it is exactly the value that a read of that counter on that
+-- card gives before the step.
+pub step-values : (r k L : ℕ) (before : List Step) (s : Step) (after : List Step) (words logs answers : List ℕ)
+    → sizes-right r k L (length (before ++ s ∷ after)) words logs answers ≡ true
+    → let answer = answer-in (run-on r k L (before ++ s ∷ after) words logs answers .answers) (length before) in
+    let st = state-after r k L before (fresh-state r k L logs) in
+    answer .value ≡ cond (was-accepted (answer .number)) (value-asked (action-of s) (λ i q. read-on (replica-of r k L st i) q .value)) 0
+step-values = theorem.step-values
+
+-- The number of a step is never anything but 0, 3, 4, 7, 12, 13 or 14.
 pub run-answers : (r k L : ℕ) (before : List Step) (s : Step) (after : List Step) (words logs answers : List ℕ)
     → sizes-right r k L (length (before ++ s ∷ after)) words logs answers ≡ true
-    → run-answer (getD (run-on r k L (before ++ s ∷ after) words logs answers .answers) (length before) 0) ≡ true
+    → run-answer (answer-in (run-on r k L (before ++ s ∷ after) words logs answers .answers) (length before) .number) ≡ true
 run-answers = theorem.run-answers
 
 -- BOTH FORMS OF STEPS. A list of steps lent as bytes, three unsigned ints each, and the same list lent as records give the same run: its number, words, logs and

@@ -8,11 +8,12 @@ use mathlib.Core.Bool.{true}
 use mathlib.Core.List.{List, _++_}
 use lib.ListN.{length}
 use Rattle.protocol.specs.Names.{Name, has}
+use Rattle.protocol.specs.Ledger as ledger
 use Rattle.replica_model.specs.Calls.{sizes-in-range, read-on}
-use Rattle.chassis_model.specs.Run.{Step, answers-of, sizes-right, run-on}
-use Rattle.chassis_model.specs.Ledger.{ledger-of}
+use Rattle.chassis_model.specs.Run.{Making, Make, Step, answers-of, sizes-right, run-on}
+use Rattle.chassis_model.specs.Ledger.{ledger-action, ledger-of}
 use Rattle.chassis_model.specs.Answers.{fresh-state}
-use Rattle.chassis_model.specs.Driver.{Call, count, clear, called, number-of, cards-after, GenuineHistory, history-ledger}
+use Rattle.chassis_model.specs.Driver.{Call, make, count, called, number-of, cards-after, GenuineHistory, history-ledger}
 use Rattle.chassis_model.specs.Cleared.{ClearedBySeer, ClearStepBySeer}
 use Rattle.chassis_model.specs.ClearedLaws as laws
 
@@ -52,12 +53,13 @@ pub run-cancelled-stays : (r k L q i : ℕ) (steps more : List Step) (logs : Lis
     → has (ledger-of r q (steps ++ more) (answers-of r k L (steps ++ more) begins) .cancelled i) n ≡ true
 run-cancelled-stays = laws.run-cancelled-stays
 
--- WHAT A CLEAR LEAVES. After every genuine history, right after a clear that was accepted a read of that counter on that card is accepted and gives 0.
+-- WHAT A CLEAR LEAVES. After every genuine history, right after an accepted call that clears, be it clear or read and clear, a read of that counter on that card is
+-- accepted and gives 0.
 pub after-clear : (r k : ℕ) → sizes-in-range r k ≡ true → (calls : List Call) → GenuineHistory r k calls
-    → (i q : ℕ) (out : List ℕ)
+    → (m : Making) (i q : ℕ) (out : List ℕ) → ledger-action (Make m i q) ≡ ledger.clear i q
     → let st = cards-after r k calls in
-    let st′ = called (clear i q out) st in
-    number-of (clear i q out) st ≡ 0 → (read-on (st′ .words i) q .number ≡ 0) × (read-on (st′ .words i) q .value ≡ 0)
+    let st′ = called (make m i q out) st in
+    number-of (make m i q out) st ≡ 0 → (read-on (st′ .words i) q .number ≡ 0) × (read-on (st′ .words i) q .value ≡ 0)
 after-clear = laws.after-clear
 
 -- WHAT A COUNT ADDS. After every genuine history, a count that is accepted raises by one what that card reads of that counter; both reads are accepted.

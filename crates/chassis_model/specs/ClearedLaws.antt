@@ -19,10 +19,10 @@ use Rattle.protocol.specs.NewNames.{value-gains}
 use Rattle.protocol.specs.ClearedLaws.{was-cleared, clear-cancelled, clear-value}
 use Rattle.replica_model.specs.declared.Reading.{Reading}
 use Rattle.replica_model.specs.Calls.{sizes-in-range, read-on}
-use Rattle.chassis_model.specs.Run.{Making, Count, Clear, Step, State, replica-of, step-on, state-after, answers-of, sizes-right, run-on}
+use Rattle.chassis_model.specs.Run.{Making, Count, Make, Step, State, replica-of, step-on, state-after, answers-of, numbers-in, sizes-right, run-on}
 use Rattle.chassis_model.specs.Ledger.{ledger-action, ledger-step, was-accepted, ledger-of, ledger-reading}
 use Rattle.chassis_model.specs.Answers.{fresh-state}
-use Rattle.chassis_model.specs.Driver.{Call, make, count, clear, Cards, opened, called, number-of, GenuineCall, Genuine, after, numbers, cards-after, GenuineHistory, call-step, history-ledger, number-checks, due-number}
+use Rattle.chassis_model.specs.Driver.{Call, make, count, Cards, opened, called, number-of, GenuineCall, Genuine, after, numbers, cards-after, GenuineHistory, call-step, history-ledger, number-checks, due-number}
 use Rattle.chassis_model.specs.Cleared.{ClearedBySeer, ClearStepBySeer}
 use Rattle.chassis_model.specs.Offers.{offer, offers-of, TheoryRun, told}
 use Rattle.chassis_model.specs.InStep.{cards-at}
@@ -120,14 +120,14 @@ module _ (r k : ℕ) (right : sizes-in-range r k ≡ true) where
       read-matches (cards-at (accepted-leaves (driver-at (went r k right calls g .0)) c gc ok .cards)) i q hi hq
 
   pub after-clear : (calls : List Call) → GenuineHistory r k calls
-      → (i q : ℕ) (out : List ℕ)
+      → (m : Making) (i q : ℕ) (out : List ℕ) → ledger-action (Make m i q) ≡ ledger.clear i q
       → let st = cards-after r k calls in
-      let st′ = called (clear i q out) st in
-      number-of (clear i q out) st ≡ 0 → (read-on (st′ .words i) q .number ≡ 0) × (read-on (st′ .words i) q .value ≡ 0)
-  unfolding ledger-reading ledger-action
-  after-clear calls g i q out ok =
-      let there = accepted-there r k Clear i q out _ _ (sym (call-numbers r k right calls g (clear i q out) tt) ∙ ok) in
-      let now = accepted-reading calls g (clear i q out) tt ok i q (there .0) (there .1) in (
+      let st′ = called (make m i q out) st in
+      number-of (make m i q out) st ≡ 0 → (read-on (st′ .words i) q .number ≡ 0) × (read-on (st′ .words i) q .value ≡ 0)
+  unfolding ledger-reading
+  after-clear calls g m i q out clears ok =
+      let there = accepted-there r k m i q out _ _ (sym (call-numbers r k right calls g (make m i q out) tt) ∙ ok) in
+      let now = rw clears at (accepted-reading calls g (make m i q out) tt ok i q (there .0) (there .1)) in (
         ap (λ (a : Reading). a .number) now,
         ap (λ (a : Reading). a .value) now ∙ clear-value r q _ (history-ledger r k calls q) (went r k right calls g .0 .cards .invariants q) i,
       )
@@ -153,7 +153,7 @@ module _ (r k : ℕ) (right : sizes-in-range r k ≡ true) where
 -- a ledger that is told of more steps
 run-ledgers-append : (r k L q : ℕ) (steps more : List Step) (st : State) (ls : ℕ → Ledger)
     → run.ledgers-after r k L (steps ++ more) st ls q ≡ run.ledgers-after r k L more (state-after r k L steps st) (run.ledgers-after r k L steps st ls) q
-unfolding answers-of state-after after-steps
+unfolding answers-of numbers-in state-after after-steps
 run-ledgers-append r k L q [] more st ls = refl
 run-ledgers-append r k L q (s ∷ steps) more st ls =
     run-ledgers-append r k L q steps more (step-on r k L s st .state) (λ p. after-step r p (ledger-step s) (was-accepted (step-on r k L s st .answer .number)) (ls p))
@@ -170,7 +170,7 @@ step-at : {P : Type 0} (r k L : ℕ) (steps : List Step) (st : State) (before : 
     → run-offers r k L steps st ≡ before ++ o ∷ later
     → ((first : List Step) (s : Step) (rest : List Step) → steps ≡ first ++ s ∷ rest → run-offers r k L first st ≡ before
     → offer (ledger-step s) (step-on r k L s (state-after r k L first st) .answer .number) ≡ o → P) → P
-unfolding answers-of state-after offers-of
+unfolding answers-of numbers-in state-after offers-of
 step-at r k L [] st [] o later e found = absurd (nil≢cons e)
 step-at r k L [] st (x ∷ before) o later e found = absurd (nil≢cons e)
 step-at r k L (s ∷ steps) st [] o later e found = found [] s steps refl refl (head-eq-of-cons-eq e)
@@ -183,7 +183,7 @@ module _ (r k L : ℕ) (steps : List Step) (words logs answers : List ℕ) (righ
   abbrev begins : State
   begins = fresh-state r k L logs
 
-  ran : (first : List Step) → TheoryRun r k (map ledger-step first) (answers-of r k L first begins) (replica-of r k L (state-after r k L first begins))
+  ran : (first : List Step) → TheoryRun r k (map ledger-step first) (numbers-in (answers-of r k L first begins)) (replica-of r k L (state-after r k L first begins))
   ran first = let z = right-sizes r k L (length steps) words logs answers right in state-run r k L first logs (z .0) (z .1)
 
   run-told : (first : List Step) (q : ℕ) → ledger-of r q first (answers-of r k L first begins) ≡ ledger-after r q (run-offers r k L first begins)
@@ -209,7 +209,7 @@ module _ (r k L : ℕ) (steps : List Step) (words logs answers : List ℕ) (righ
 
   pub run-cleared-is-cancelled : (q : ℕ) (n : Name) (w : ClearStepBySeer r k L q steps logs n)
       → has (ledger-of r q steps (run-on r k L steps words logs answers .answers) .cancelled (w .card)) n ≡ true
-  unfolding ledger-of answers-of
+  unfolding ledger-of answers-of numbers-in
   run-cleared-is-cancelled q n w =
       rw (answers-are r k L steps words logs answers right, w .in-list, run-ledgers-append r k L q (w .before) (w .step ∷ w .later) begins (λ p. empty-ledger))
       (stays-cleared r q (w .card) _ _ (ran (w .before) .cards .invariants q) n (w .had-received) _ _ (w .is-clear) (ap was-accepted (w .was-accepted)) _ _)

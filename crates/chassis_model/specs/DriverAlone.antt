@@ -24,16 +24,16 @@ use Rattle.wire.specs.Message.{message-at}
 use Rattle.replica_model.specs.Layout.{N-of}
 use Rattle.replica_model.specs.Calls.{sizes-in-range, left-checks, read-on}
 use Rattle.replica_model.specs.RowLaws.{sizes}
-use Rattle.chassis_model.specs.Run.{Making}
+use Rattle.chassis_model.specs.Run.{Making, Make}
 use Rattle.chassis_model.specs.Answers.{message-size}
-use Rattle.chassis_model.specs.Driver.{Call, make, take, Cards, opened, called, number-of, GenuineCall, Genuine, after, numbers, cards-after, GenuineHistory, call-step, number-checks, due-number}
-use Rattle.chassis_model.specs.Alone.{own-calls, again, replayed}
-use Rattle.chassis_model.specs.AloneQueues.{queued-calls, own-calls-are}
+use Rattle.chassis_model.specs.Driver.{Call, make, take, Cards, opened, called, number-of, value-of, GenuineCall, Genuine, after, numbers, values, cards-after, GenuineHistory, call-step, number-checks, due-number}
+use Rattle.chassis_model.specs.Alone.{own-calls, own-call-values, again, replayed}
+use Rattle.chassis_model.specs.AloneQueues.{queued-calls, queued-calls-from, own-calls-from-is, own-calls-are}
 use Rattle.chassis_model.specs.InStep.{reached-N, made-all}
 use Rattle.chassis_model.specs.Makings.{making-belongs}
-use Rattle.chassis_model.specs.AloneLaws.{same-size, CardsBeside, same-reads-beside, more-left}
+use Rattle.chassis_model.specs.AloneLaws.{same-size, same-asked, CardsBeside, same-reads-beside, more-left}
 use Rattle.chassis_model.specs.DriverMatches.{DriverMatches, DriverAt, driver-at, driver-cards, opened-matches, take-cases}
-use Rattle.chassis_model.specs.DriverSteps.{number-distinct, call-number, accepted-enabled, accepted-leaves, declined-leaves}
+use Rattle.chassis_model.specs.DriverSteps.{number-distinct, call-number, call-value, accepted-enabled, accepted-leaves, declined-leaves}
 use Rattle.chassis_model.specs.DriverResends.{written-length, written-in-order, written-by-sender}
 
 -- ---- a call of q that the first history accepts, again in the second
@@ -93,25 +93,38 @@ module _ {r k : ℕ} (q : ℕ) (turns : Turns) (now alone : DriverAt r k) (b : C
   }
   again-accepted (take i bytes) g ok own = take-again i bytes g ok own
 
+  -- and it answers the same value
+  again-value : (c : Call) → number-of c (now .state) ≡ 0 → belongs-by-turns q (call-step c) turns ≡ true → number-of (again r c (alone .state)) (alone .state) ≡ 0
+      → value-of (again r c (alone .state)) (alone .state) ≡ value-of c (now .state)
+  unfolding value-of
+  again-value (make m i c out) ok own too =
+      call-value alone (make m i c out) too
+      ∙ same-asked q turns (driver-cards now) (driver-cards alone) b (Make m i c) own
+      ∙ sym (call-value now (make m i c out) ok)
+  again-value (take i bytes) ok own too = refl
+
 -- ---- a list of calls
 
--- own calls, from cards on that stand beside others: all accepted, and the reads of q at the end are the same
-record OwnHistory (r k q : ℕ) (cs : List Call) (st : Cards) (own : List Call) (st′ : Cards) : Type 0 where
+-- own calls, from cards on that stand beside others: all accepted, with the same values, and the reads of q at the end are the same
+record OwnHistory (r k q : ℕ) (cs : List Call) (st : Cards) (own : List Call) (told : List ℕ) (st′ : Cards) : Type 0 where
   genuine : Genuine (replayed r own st′) st′
   accepts : numbers (replayed r own st′) st′ ≡ map (λ c. 0) own
+  answers : values (replayed r own st′) st′ ≡ told
   steps : map call-step (replayed r own st′) ≡ map call-step own
   reads : (i : ℕ) → i < r → q < k → read-on (after (replayed r own st′) st′ .words i) q ≡ read-on (after cs st .words i) q
 
-module _ (r k q : ℕ) (c : Call) (cs own : List Call) (st st′ : Cards) where
-  one-more : OwnHistory r k q cs (called c st) own st′ → OwnHistory r k q (c ∷ cs) st own st′
+module _ (r k q : ℕ) (c : Call) (cs own : List Call) (told : List ℕ) (st st′ : Cards) where
+  one-more : OwnHistory r k q cs (called c st) own told st′ → OwnHistory r k q (c ∷ cs) st own told st′
   unfolding after
-  one-more h = record { genuine = h .genuine; accepts = h .accepts; steps = h .steps; reads = h .reads }
+  one-more h = record { genuine = h .genuine; accepts = h .accepts; answers = h .answers; steps = h .steps; reads = h .reads }
 
-  both-more : Again r c st′ → OwnHistory r k q cs (called c st) own (called (again r c st′) st′) → OwnHistory r k q (c ∷ cs) st (c ∷ own) st′
-  unfolding after numbers replayed
-  both-more a h = record {
+  both-more : (v : ℕ) → Again r c st′ → value-of (again r c st′) st′ ≡ v → OwnHistory r k q cs (called c st) own told (called (again r c st′) st′)
+      → OwnHistory r k q (c ∷ cs) st (c ∷ own) (v ∷ told) st′
+  unfolding after numbers values replayed
+  both-more v a same h = record {
     genuine = (a .genuine, h .genuine);
     accepts = ap₂ (λ (n : ℕ) (ns : List ℕ). n ∷ ns) (a .number) (h .accepts);
+    answers = ap₂ (λ (n : ℕ) (ns : List ℕ). n ∷ ns) same (h .answers);
     steps = ap₂ (λ (s : ledger.Step) (ss : List ledger.Step). s ∷ ss) (a .step) (h .steps);
     reads = h .reads;
   }
@@ -120,14 +133,14 @@ module _ (r k q : ℕ) where
   abbrev FromBeside : List Call → Type 0
   FromBeside cs =
       (turns : Turns) (now : DriverAt r k) → Genuine cs (now .state) → (alone : DriverAt r k) → CardsBeside q turns (driver-cards now) (driver-cards alone)
-      → OwnHistory r k q cs (now .state) (queued-calls q cs (now .state) turns) (alone .state)
+      → OwnHistory r k q cs (now .state) (queued-calls q cs (now .state) turns) (queued-calls-from (λ c v. v) q cs (now .state) turns) (alone .state)
 
   from-none : FromBeside []
-  unfolding after numbers queues.own-steps replayed
-  from-none turns now g alone b = record { genuine = tt; accepts = refl; steps = refl; reads = same-reads-beside q turns (driver-cards now) (driver-cards alone) b }
+  unfolding after numbers values queues.own-steps queued-calls-from replayed
+  from-none turns now g alone b = record { genuine = tt; accepts = refl; answers = refl; steps = refl; reads = same-reads-beside q turns (driver-cards now) (driver-cards alone) b }
 
   from-call : (c : Call) (cs : List Call) → FromBeside cs → FromBeside (c ∷ cs)
-  unfolding numbers queues.own-steps
+  unfolding numbers queues.own-steps queued-calls-from
   from-call c cs rest turns now (g, gs) alone b =
       let number = number-of c (now .state) in
       by-place number 0
@@ -137,14 +150,14 @@ module _ (r k q : ℕ) where
       let next : DriverMatches r k (called (again r c (alone .state)) (alone .state)) (done r (call-step c) (alone .chassis)) (λ q. after-accepted r q (call-step c) (alone .ledgers q))
       = rw (a .step) at (accepted-leaves alone (again r c (alone .state)) (a .genuine) (a .number)) in
       rw (eq-eqb number 0 e, own)
-      (both-more r k q c cs _ (now .state) (alone .state) a
+      (both-more r k q c cs _ _ (now .state) (alone .state) (value-of c (now .state)) a (again-value q turns now alone b c e own (a .number))
       (rest _ (driver-at (accepted-leaves now c g e)) gs (driver-at next)
       (own-done r q turns (now .chassis) (now .ledgers q) (alone .chassis) (alone .ledgers q) b (call-step c) own (accepted-enabled now c g e)))))
       (λ own. rw (eq-eqb number 0 e, own)
-      (one-more r k q c cs _ (now .state) (alone .state)
+      (one-more r k q c cs _ _ (now .state) (alone .state)
       (rest _ (driver-at (accepted-leaves now c g e)) gs alone
       (other-done r q turns (now .chassis) (now .ledgers q) (alone .chassis) (alone .ledgers q) b (call-step c) own (accepted-enabled now c g e))))))
-      (λ d. rw (ne-eqb number 0 d) (one-more r k q c cs _ (now .state) (alone .state) (rest turns (driver-at (declined-leaves now c g d)) gs alone b)))
+      (λ d. rw (ne-eqb number 0 d) (one-more r k q c cs _ _ (now .state) (alone .state) (rest turns (driver-at (declined-leaves now c g d)) gs alone b)))
 
   own-history : (cs : List Call) → FromBeside cs
   own-history [] = from-none
@@ -155,14 +168,17 @@ module _ (r k q : ℕ) (right : sizes-in-range r k ≡ true) (calls : List Call)
   own-calls-told =
       own-calls-are q calls (driver-at (opened-matches r k (sizes r k right))) genuine no-turns (λ s i d. refl)
 
-  went : OwnHistory r k q calls (opened r k) (own-calls r k q calls) (opened r k)
+  values-told : own-call-values r k q calls ≡ queued-calls-from (λ c v. v) q calls (opened r k) no-turns
+  values-told = own-calls-from-is (λ c v. v) q calls (driver-at (opened-matches r k (sizes r k right))) genuine no-turns (λ s i d. refl)
+
+  went : OwnHistory r k q calls (opened r k) (own-calls r k q calls) (own-call-values r k q calls) (opened r k)
   went =
       let begins = driver-at (opened-matches r k (sizes r k right)) in
-      rw own-calls-told
+      rw (own-calls-told, values-told)
       (own-history r k q calls no-turns begins genuine begins (fresh-beside r q))
 
   pub calls-alone : let own = own-calls r k q calls in
       let again = replayed r own (opened r k) in
-      GenuineHistory r k again × (numbers again (opened r k) ≡ map (λ c. 0) own) × (map call-step again ≡ map call-step own)
+      GenuineHistory r k again × (numbers again (opened r k) ≡ map (λ c. 0) own) × (values again (opened r k) ≡ own-call-values r k q calls) × (map call-step again ≡ map call-step own)
       × ((i : ℕ) → i < r → q < k → read-on (cards-after r k again .words i) q ≡ read-on (cards-after r k calls .words i) q)
-  calls-alone = (went .genuine, went .accepts, went .steps, went .reads)
+  calls-alone = (went .genuine, went .accepts, went .answers, went .steps, went .reads)

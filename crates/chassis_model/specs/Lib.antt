@@ -23,6 +23,7 @@ pub mod AgreementExamples
 pub mod AloneClaims
 pub mod AloneExamples
 pub mod ReadAndClearClaims
+pub mod ReadAndClearExamples
 pub mod Algorithm1Claims
 pub mod PendingClaims
 pub mod CaughtUpClaims

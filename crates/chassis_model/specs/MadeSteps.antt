@@ -19,7 +19,7 @@ use Rattle.wire.specs.declared.Message as wire
 use Rattle.wire.specs.Message.{message-bytes, message-length}
 use Rattle.wire.specs.Claims.{message-bytes-length}
 use Rattle.replica_model.specs.Layout.{replica-length}
-use Rattle.replica_model.specs.Calls.{SendOutcome, left-checks, not-sent, words-after}
+use Rattle.replica_model.specs.Calls.{left-checks, not-sent, words-after, ClearedOutcome, with-value}
 use Rattle.replica_model.specs.Format.{on-wire}
 use Rattle.chassis_model.specs.ListParts.{put-part}
 use Rattle.chassis_model.specs.ListPartsLaws.{part-length, put-part-same, put-part-length, part-put}
@@ -30,7 +30,7 @@ use Rattle.chassis_model.specs.LogLaws.{Readable, AllReadable, written, 
 use Rattle.chassis_model.specs.Numbered.{wire-log, wire-log-append, length-numbered}
 use Rattle.chassis_model.specs.InStep.{CardsShow, own-N}
 use Rattle.chassis_model.specs.Matches.{Holds, RunAt, run-cards, words-in, log-in, N-in, free-in, room-in, put-words-fit, put-words-show}
-use Rattle.chassis_model.specs.Sends.{Outgoing, next-message, told, call-cases, issued-here}
+use Rattle.chassis_model.specs.Sends.{Outgoing, next-message, told, value-told, call-cases, issued-here}
 
 -- ---- one log: a message goes to its end
 
@@ -50,9 +50,9 @@ number-some n some = by-place n short-output (λ e. rw e (λ z. omega arith)) (�
 
 module _ (r k L : ℕ) (st : State) (i : ℕ) where
   -- what the step makes of the call's outcome
-  abbrev pub made-of : SendOutcome → Stepped
+  abbrev pub made-of : ClearedOutcome → Stepped
   made-of done = record {
-    answer = answered (cond (eqb (done .answer .number) short-output) log-full (done .answer .number));
+    answer = record { number = cond (eqb (done .answer .number) short-output) log-full (done .answer .number); value = done .answer .value };
     state = record {
       words = put-part (replica-length r k) i (done .words) (st .words);
       logs = put-part L i (take (free-from r k L st i) (log-of r k L st i) ++ done .out) (st .logs);
@@ -60,7 +60,7 @@ module _ (r k L : ℕ) (st : State) (i : ℕ) where
   }
 
   pub declined-made : (number : ℕ)
-      → made-of (not-sent number (replica-of r k L st i) (drop (free-from r k L st i) (log-of r k L st i)))
+      → made-of (with-value 0 (not-sent number (replica-of r k L st i) (drop (free-from r k L st i) (log-of r k L st i))))
       ≡ declined st (cond (eqb number short-output) log-full number)
   declined-made number =
       rw (put-part-same (replica-length r k) i (st .words), take-append-drop (free-from r k L st i) (log-of r k L st i), put-part-same L i (st .logs))
@@ -99,7 +99,7 @@ module _ {r k L : ℕ} (now : RunAt r k L) (m : Making) (i q : ℕ) (hi : i < r)
       → ((n : ℕ) → n ≢ 0 → n ≡ told-step → P (declined (now .state) n))
       → (0 ≡ told-step → q < k → Outgoing r k i (words-in now i) (next-message r (now .chassis) m i q)
       → message-size r m i q (now .ledgers q) ≤ length (room-in now i)
-      → P (record { answer = answered 0; state = state-made now i (next-message r (now .chassis) m i q) }))
+      → P (record { answer = record { number = 0; value = value-told (run-cards now) m i q hi }; state = state-made now i (next-message r (now .chassis) m i q) }))
       → P (made r k L i (call-of m q) (now .state))
   unfolding made
   made-cases P refuses sends =

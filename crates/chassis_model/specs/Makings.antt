@@ -1,30 +1,35 @@
--- LAWS. What a making is (`IsMaking`): the step of the ledger, and so the message, that it is; the call that sends that message; and its length. Each making has
+-- LAWS. What a making is (`IsMaking`): the step of the ledger, and so the message, that it is; the call that sends that message; its length; and the value that it
+-- reads. Each making has
 -- an instance here. All that is known of makings besides follows from these facts, and no law outside this file tells one making from another.
 use Prim.Native.Nat.{ℕ, _<_}
-use mathlib.Core.Path.{_≡_, refl}
-use mathlib.Core.Bool.{true}
+use mathlib.Core.Path.{_≡_, refl, sym, ap, _∙_}
+use mathlib.Core.Bool.{true, cond}
 use mathlib.Core.List.{List}
 use native.Mathlib.Omega.{arith}
 use lib.Dec.{eqb}
-use borrow.Author.Tests.{lt-ltb}
+use borrow.Author.Tests.{lt-ltb, eq-eqb, ne-eqb}
+use Rattle.protocol.specs.Cases.{by-place}
 use Rattle.protocol.specs.Ledger as ledger
 use Rattle.protocol.specs.Chassis.{Message, Replica, Chassis, no-message, count-message, clear-message, issued, done, enabled}
 use Rattle.protocol.specs.Alone.{Turns, step-counter, belongs-by-turns}
 use Rattle.protocol.specs.StoreLaws.{Shows, shown, count-shown, clear-shown}
 use Rattle.protocol.specs.Checks.{Decided}
 use Rattle.replica_model.specs.Layout.{cards, own-card, layout}
-use Rattle.replica_model.specs.Calls.{state, not-sent, send-checks, sent-with, holders}
+use Rattle.replica_model.specs.Calls.{state, reading, read-on, not-sent, send-checks, sent-with, holders, ClearedOutcome, with-value}
 use Rattle.replica_model.specs.ClaimTerms.{sent-as, Writable, Isolates}
 use Rattle.replica_model.specs.PresentLaws.{present-below}
+use Rattle.replica_model.specs.declared.Reading.{Reading}
+use Rattle.replica_model.specs.AcceptedCalls.{sent-facts}
 use Rattle.replica_model.specs.Senders.{Sending, count-writable, clear-writable}
-use Rattle.replica_model.specs.CallsLaws.{count-decided, clear-decided}
-use Rattle.replica_model.specs.Claims.{count-isolates, clear-isolates}
+use Rattle.replica_model.specs.CallsLaws.{count-decided, clear-decided, value-decided, read-and-clear-decided}
+use Rattle.replica_model.specs.Claims.{count-isolates, clear-isolates, read-and-clear-isolates}
 use Rattle.replica_model.specs.Format.{format-1}
-use Rattle.chassis_model.specs.Run.{Making, Count, Clear, Make, call-of}
+use Rattle.chassis_model.specs.Run.{Making, Count, Clear, ReadAndClear, Make, call-of}
 use Rattle.chassis_model.specs.Ledger.{ledger-action}
-use Rattle.chassis_model.specs.Answers.{step-size}
+use Rattle.chassis_model.specs.Answers.{step-size, value-asked}
 use Rattle.chassis_model.specs.Numbered.{Sendable}
 use Rattle.chassis_model.specs.InStep.{Heads}
+use Rattle.chassis_model.specs.Reads.{read-passes}
 
 -- the message that a count or a clear makes on a chassis of r cards, from its card's replica
 unfoldable pub step-message : ℕ → ledger.Step → Replica → Message
@@ -42,34 +47,53 @@ own-message m b q = message-of m (cards b) (own-card b) q (state b)
 abbrev pub own-size : Making → List ℕ → ℕ → ℕ
 own-size m b q = step-size (ledger-action (Make m (own-card b) q)) (holders b q)
 
+-- the value that it reads
+abbrev pub own-value : Making → List ℕ → ℕ → ℕ
+own-value m b q = value-asked (Make m (own-card b) q) (λ i c. reading b c .value)
+
 pub record IsMaking (m : Making) : Type 1 where
   -- to the ledger it is a count by one unit or a clear
   pub as-step : (P : (ℕ → ℕ → ledger.Step) → Type 0) → P (λ i q. ledger.count i q 1) → P (λ i q. ledger.clear i q) → P (λ i q. ledger-action (Make m i q))
   -- its call has the checks of every call that sends, and sends that step's message
   pub decided : (q : ℕ) (b out : List ℕ)
-      → Decided (λ o. o .answer .number) (λ n. not-sent n b out) (send-checks b q out (own-size m b q)) (sent-with format-1 b out (own-message m b q)) (call-of m q b out)
+      → Decided (λ o. o .answer .number) (λ n. with-value 0 (not-sent n b out)) (send-checks b q out (own-size m b q))
+      (with-value (own-value m b q) (sent-with format-1 b out (own-message m b q))) (call-of m q b out)
+  -- of values it asks for no other than that of its counter and card
+  pub asks : (i j q : ℕ) (f g : ℕ → ℕ → ℕ) → f i q ≡ g j q → value-asked (Make m i q) f ≡ value-asked (Make m j q) g
   -- the call leaves other counters
   pub isolates : (q : ℕ) (b out : List ℕ) → Isolates b q (call-of m q b out .words)
 
 is-count : IsMaking Count
-unfolding call-of ledger-action step-message step-size
+unfolding call-of ledger-action step-message step-size value-asked
 is-count = record {
   as-step = λ P counts clears. counts;
-  decided = λ q b out. count-decided b q out;
+  decided = λ q b out. value-decided 0 0 b out _ _ _ (λ e. refl) (λ d. refl) (count-decided b q out);
+  asks = λ i j q f g same. refl;
   isolates = λ q b out. count-isolates b q out;
 }
 
 is-clear : IsMaking Clear
-unfolding call-of ledger-action step-message step-size
+unfolding call-of ledger-action step-message step-size value-asked
 is-clear = record {
   as-step = λ P counts clears. clears;
-  decided = λ q b out. clear-decided b q out;
+  decided = λ q b out. value-decided 0 0 b out _ _ _ (λ e. refl) (λ d. refl) (clear-decided b q out);
+  asks = λ i j q f g same. refl;
   isolates = λ q b out. clear-isolates b q out;
+}
+
+is-read-and-clear : IsMaking ReadAndClear
+unfolding call-of ledger-action step-message step-size value-asked
+is-read-and-clear = record {
+  as-step = λ P counts clears. clears;
+  decided = λ q b out. read-and-clear-decided b q out;
+  asks = λ i j q f g same. same;
+  isolates = λ q b out. read-and-clear-isolates b q out;
 }
 
 pub making : (m : Making) → IsMaking m
 making Count = is-count
 making Clear = is-clear
+making ReadAndClear = is-read-and-clear
 
 -- ---- its message keeps to the limits
 
@@ -114,3 +138,17 @@ module _ (m : Making) where
   pub making-belongs : (i q c : ℕ) (turns : Turns) → belongs-by-turns q (ledger-action (Make m i c)) turns ≡ eqb c q
   unfolding belongs-by-turns
   making-belongs i q c turns = making m .as-step (λ step. belongs-by-turns q (step i c) turns ≡ eqb c q) refl refl
+
+  -- ---- the value that its call answers is the one that a read gives just before, in any words
+
+  pub value-read : (i q : ℕ) (b out : List ℕ) (value : ℕ → ℕ → ℕ) → value i q ≡ read-on b q .value
+      → call-of m q b out .answer .value ≡ cond (eqb (call-of m q b out .answer .number) 0) (value-asked (Make m i q) value) 0
+  value-read i q b out value is =
+      let d = making m .decided q b out in
+      let n = call-of m q b out .answer .number in
+      by-place n 0
+      (λ e.
+      let k = sent-facts b q out (own-size m b q) (d .exact 0 .0 e) in
+      let read : reading b q .value ≡ value i q = sym (ap (λ (a : Reading). a .value) (read-passes b q (k .right) (k .counter) (k .row))) ∙ sym is in
+      rw (eq-eqb n 0 e) (ap (λ (o : ClearedOutcome). o .answer .value) (d .accepted e) ∙ making m .asks (own-card b) i q _ value read))
+      (λ some. rw (ne-eqb n 0 some) (ap (λ (o : ClearedOutcome). o .answer .value) (d .refused some)))

@@ -10,7 +10,7 @@ use Rattle.protocol.specs.RoundRobin.{IsLink, times, PassedOver}
 use Rattle.protocol.specs.PendingClaims as transport
 use Rattle.replica_model.specs.Calls.{sizes-in-range, read-on}
 use Rattle.replica_model.specs.RowLaws.{sizes}
-use Rattle.chassis_model.specs.Run.{Step, State, replica-of, state-after, answers-of}
+use Rattle.chassis_model.specs.Run.{Step, State, replica-of, state-after, answers-of, numbers-in}
 use Rattle.chassis_model.specs.Answers.{fresh-state}
 use Rattle.chassis_model.specs.Pending.{state-links, pump, all-waiting, pump-steps, Checked}
 use Rattle.chassis_model.specs.PendingChecked.{checked-orderly}
@@ -59,7 +59,7 @@ module _ (r k L : ℕ) (right : sizes-in-range r k ≡ true) (logs : List ℕ) (
       → let st = state-after r k L steps (fresh-state r k L logs) in
       let made = pump r k L b st .made in
       (pump r k L b st .state ≡ state-after r k L (steps ++ pump-steps made) (fresh-state r k L logs))
-      × (answers-of r k L (pump-steps made) st ≡ map (λ l. 0) made)
+      × (numbers-in (answers-of r k L (pump-steps made) st) ≡ map (λ l. 0) made)
   calls-are-steps b = (laws.call-is-steps r k L steps logs (sizes r k right) fits b, laws.call-answers r k L steps logs (sizes r k right) fits b)
 
   -- "When b is at least the total waiting, all cards then agree on every value and holder set."

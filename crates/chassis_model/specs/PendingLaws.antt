@@ -19,7 +19,7 @@ use Rattle.wire.specs.Message.{message-at}
 use Rattle.replica_model.specs.Calls.{read-on}
 use Rattle.chassis_model.specs.Log.{waiting-part}
 use Rattle.chassis_model.specs.Takes.{fields-are}
-use Rattle.chassis_model.specs.Run.{Step, Deliver, action-of, State, N-at, replica-of, delivered, step-on, state-after, answers-of, deliver-kind}
+use Rattle.chassis_model.specs.Run.{Step, Deliver, action-of, State, N-at, replica-of, delivered, step-on, state-after, answers-of, numbers-in, deliver-kind}
 use Rattle.chassis_model.specs.Answers.{fresh-state}
 use Rattle.chassis_model.specs.InStep.{reached-N, own-N}
 use Rattle.chassis_model.specs.Matches.{Sizes, Matches, RunAt, run-at, run-cards, log-in, N-in, message-stands}
@@ -89,13 +89,13 @@ module _ (r k L : ℕ) where
       replayed-steps ls (delivered r k L (l .receiver) (l .sender) st .state) (a .1)
       ∙ ap (λ stepped. state-after r k L (pump-steps ls) (stepped .state)) (sym (link-step (l .receiver) (l .sender) st (a .0 .0) (a .0 .1)))
 
-  answered : (ls : List Link) (st : State) → AllDeliver (state-links r k L) r ls st → answers-of r k L (pump-steps ls) st ≡ map (λ l. 0) ls
-  unfolding AllDeliver answers-of
+  answered : (ls : List Link) (st : State) → AllDeliver (state-links r k L) r ls st → numbers-in (answers-of r k L (pump-steps ls) st) ≡ map (λ l. 0) ls
+  unfolding AllDeliver answers-of numbers-in
   answered [] st a = refl
   answered (l ∷ ls) st a =
       let e = link-step (l .receiver) (l .sender) st (a .0 .0) (a .0 .1) in
       ap₂ _∷_ (ap (λ stepped. stepped .answer .number) e ∙ eqb-true (delivered r k L (l .receiver) (l .sender) st .answer .number) 0 (a .0 .2))
-      (ap (λ stepped. answers-of r k L (pump-steps ls) (stepped .state)) e ∙ answered ls (delivered r k L (l .receiver) (l .sender) st .state) (a .1))
+      (ap (λ stepped. numbers-in (answers-of r k L (pump-steps ls) (stepped .state))) e ∙ answered ls (delivered r k L (l .receiver) (l .sender) st .state) (a .1))
 
   after-append : (ss ts : List Step) (st : State) → state-after r k L (ss ++ ts) st ≡ state-after r k L ts (state-after r k L ss st)
   unfolding state-after
@@ -144,7 +144,7 @@ module _ (r k L : ℕ) (steps : List Step) (logs : List ℕ) (z : Sizes r k) (fi
       ∙ replayed-steps r k L (pump r k L b st .made) st (call .delivers)
       ∙ sym (after-append r k L steps (pump-steps (pump r k L b st .made)) start)
 
-  pub call-answers : answers-of r k L (pump-steps (pump r k L b st .made)) st ≡ map (λ l. 0) (pump r k L b st .made)
+  pub call-answers : numbers-in (answers-of r k L (pump-steps (pump r k L b st .made)) st) ≡ map (λ l. 0) (pump r k L b st .made)
   call-answers = answered r k L (pump r k L b st .made) st (call .delivers)
 
   pub call-agrees : all-waiting r k L st ≤ b → (i j q : ℕ) → i < r → j < r → q < k

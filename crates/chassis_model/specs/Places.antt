@@ -12,7 +12,7 @@ use Rattle.protocol.specs.Ledger.{Ledger}
 use Rattle.protocol.specs.Chassis.{Chassis}
 use Rattle.wire.specs.declared.Message as wire
 use Rattle.wire.specs.Message.{clear-length, called-length}
-use Rattle.replica_model.specs.Calls.{SendOutcome, not-sent}
+use Rattle.replica_model.specs.Calls.{not-sent, ClearedOutcome, with-value}
 use Rattle.replica_model.specs.FormatLaws.{on-wire-size}
 use Rattle.chassis_model.specs.Log.{waiting-part, end-of}
 use Rattle.chassis_model.specs.ListPartsLaws.{part-length}
@@ -113,10 +113,10 @@ module _ (r k L : ℕ) (st : State) (places : List ℕ) (h : Reached r k L st pl
 
   -- the places after the call's outcome
   module _ (i : ℕ) (hi : i < r) where
-    abbrev PlacesAfter : SendOutcome → Type 0
+    abbrev PlacesAfter : ClearedOutcome → Type 0
     PlacesAfter done = Places r k L (made-of r k L st i done .state) (set places (link-place i i) (free-from r k L st i + done .answer .length))
 
-    places-declined : (number : ℕ) → PlacesAfter (not-sent number (replica-of r k L st i) (drop (free-from r k L st i) (log-of r k L st i)))
+    places-declined : (number : ℕ) → PlacesAfter (with-value 0 (not-sent number (replica-of r k L st i) (drop (free-from r k L st i) (log-of r k L st i))))
     places-declined number =
         let none : set places (link-place i i) (free-from r k L st i + 0) ≡ places
         = rw (← (free-place-is i hi)) (let z : getD places (link-place i i) 0 + 0 ≡ getD places (link-place i i) 0 = omega arith in rw z (set-getD places (link-place i i) 0)) in

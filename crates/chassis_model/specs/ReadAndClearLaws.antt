@@ -1,120 +1,165 @@
--- LAWS. A driver's history as a list of the theory's calls in which every clear is a read-and-clear: what the theory reads there is what the words give right before
--- the clear, so the theory's total is one on the driver's reads.
+-- LAWS. The total of a counter that one card clears, always by read and clear. In a run and in a driver's history the values answered are what the theory reads right
+-- before each clear, so the theory's total (`protocol`'s `ReadAndClearLaws`) is one on the answers.
 use Prim.Native.Nat.{ℕ, _+_, _<_}
 use mathlib.Core.Path.{_≡_, refl, sym, ap, ap₂, _∙_}
 use mathlib.Core.Bool.{Bool, true, false, cond, _&&_}
 use mathlib.Core.List.{List, [], _∷_, map}
 use lib.Dec.{eqb}
 use lib.ListN.{length}
-use borrow.Author.Tests.{eqb-true}
-use Rattle.protocol.specs.Cases.{by-test, and-left, and-right, and-no-right}
+use borrow.Author.Tests.{eqb-true, eq-eqb, ne-eqb}
+use Rattle.protocol.specs.Cases.{by-test, by-place, and-left, and-right, and-no-right}
 use Rattle.protocol.specs.Ledger as ledger
-use Rattle.protocol.specs.Ledger.{empty-ledger, after-steps}
-use Rattle.protocol.specs.Chassis.{Chassis, Offer, answers, read-value}
+use Rattle.protocol.specs.Ledger.{Ledger, empty-ledger, after-steps, ledger-value}
+use Rattle.protocol.specs.Chassis.{Chassis, fresh-chassis, accepted, read-value}
 use Rattle.protocol.specs.Theorem.{value-is}
-use Rattle.protocol.specs.ReadAndClear as theory
-use Rattle.protocol.specs.ReadAndClear.{plain, read-and-clear, CallOffer, offer-of, value-read, second-answers, ClearsAsHarvest, OnlyHarvests, is-harvest, harvested}
-use Rattle.protocol.specs.ReadAndClearLaws.{names-received}
-use Rattle.replica_model.specs.declared.Reading.{Reading}
+use Rattle.protocol.specs.Increments.{increments-received}
+use Rattle.protocol.specs.ReadAndClearLaws.{ClearedBy, OneClears, is-clear, read-before, names-received, received-told}
+use Rattle.replica_model.specs.Layout.{replica-length}
 use Rattle.replica_model.specs.Calls.{sizes-in-range, read-on}
 use Rattle.replica_model.specs.RowLaws.{sizes}
-use Rattle.chassis_model.specs.Ledger.{was-accepted, ledger-reading}
-use Rattle.chassis_model.specs.Driver.{Call, Cards, opened, number-of, Genuine, numbers, cards-after, GenuineHistory, call-step, history-ledger}
-use Rattle.chassis_model.specs.ReadAndClearOf.{ClearedBy, OneClears, is-clear, collected}
-use Rattle.chassis_model.specs.Reads.{read-matches}
-use Rattle.chassis_model.specs.Offers.{offer, offers-of, told}
+use Rattle.chassis_model.specs.ListParts.{part}
+use Rattle.chassis_model.specs.Run.{Count, Clear, ReadAndClear, Action, Make, Deliver, Nothing, Step, action-of, step-on, answers-of, numbers-in, values-in, sizes-right, run-on}
+use Rattle.chassis_model.specs.Ledger.{ledger-action, ledger-step, was-accepted, accepted-of, ledger-of}
+use Rattle.chassis_model.specs.Answers.{fresh-state, value-asked}
+use Rattle.chassis_model.specs.Driver.{Call, make, take, opened, number-of, value-of, Genuine, numbers, values, cards-after, GenuineHistory, call-step, history-ledger}
+use Rattle.chassis_model.specs.ReadAndClearOf.{call-action, ClearsByReading, OnlyReadAndClears, is-read-and-clear, collected}
+use Rattle.chassis_model.specs.InStep.{CardsAt}
+use Rattle.chassis_model.specs.Offers.{offer, offers-of, ledgers-told, TheoryRun, told}
 use Rattle.chassis_model.specs.TheoryReads as reads
+use Rattle.chassis_model.specs.Matches.{RunAt, run-at, run-cards}
+use Rattle.chassis_model.specs.FreshRun.{fresh-matches}
+use Rattle.chassis_model.specs.StepLaws.{step-matches}
+use Rattle.chassis_model.specs.AnswerLaws.{accepted-value}
+use Rattle.chassis_model.specs.Theorem.{run-offers, right-sizes, answers-are, theory-run}
 use Rattle.chassis_model.specs.DriverMatches.{DriverAt, driver-at, driver-cards, opened-matches}
-use Rattle.chassis_model.specs.DriverSteps.{call-matches}
+use Rattle.chassis_model.specs.DriverSteps.{call-matches, call-value, history-offers}
 use Rattle.chassis_model.specs.DriverTheorem.{theory-history}
 
-as-call : ledger.Step → theory.Call
-as-call (ledger.count i c w) = plain (ledger.count i c w)
-as-call (ledger.clear i c) = read-and-clear i c
-as-call (ledger.deliver i s) = plain (ledger.deliver i s)
+-- ---- one action
 
-unfoldable calls-offered : List Call → List ℕ → List CallOffer
-calls-offered [] ns = []
-calls-offered (c ∷ cs) [] = []
-calls-offered (c ∷ cs) (n ∷ ns) = record { call = as-call (call-step c); willing = was-accepted n } ∷ calls-offered cs ns
+module _ (h q : ℕ) where
+  only-cleared : (a : Action) → ClearsByReading h q a → ClearedBy h q (ledger-action a)
+  unfolding ledger-action
+  only-cleared (Make Count i c) only = tt
+  only-cleared (Make Clear i c) only = λ e. absurd (only e)
+  only-cleared (Make ReadAndClear i c) only = only
+  only-cleared (Deliver i s) only = tt
+  only-cleared Nothing only = tt
 
--- they are the same steps
-same-step : (s : ledger.Step) → theory.call-step (as-call s) ≡ s
-unfolding as-call
-same-step (ledger.count i c w) = refl
-same-step (ledger.clear i c) = refl
-same-step (ledger.deliver i s) = refl
+  -- to the theory it is a clear of q by h exactly if it is a read and clear of q by h
+  same-clear : (a : Action) → ClearsByReading h q a → is-read-and-clear h q a ≡ is-clear h q (ledger-action a)
+  unfolding ledger-action is-read-and-clear is-clear
+  same-clear (Make Count i c) only = refl
+  same-clear (Make Clear i c) only = rw (ne-eqb c q only, and-no-right (eqb i h) false refl)
+  same-clear (Make ReadAndClear i c) only = refl
+  same-clear (Deliver i s) only = refl
+  same-clear Nothing only = refl
 
-same-offers : (cs : List Call) (ns : List ℕ) → map offer-of (calls-offered cs ns) ≡ offers-of (map call-step cs) ns
-unfolding calls-offered offers-of
-same-offers [] ns = refl
-same-offers (c ∷ cs) [] = refl
-same-offers (c ∷ cs) (n ∷ ns) = ap₂ (λ (o : Offer) (os : List Offer). o ∷ os) (ap (λ (s : ledger.Step). offer s n) (same-step (call-step c))) (same-offers cs ns)
+  value-there : (a : Action) (f : ℕ → ℕ → ℕ) → is-read-and-clear h q a ≡ true → value-asked a f ≡ f h q
+  unfolding is-read-and-clear value-asked
+  value-there (Make Count i c) f e = cc
+  value-there (Make Clear i c) f e = cc
+  value-there (Make ReadAndClear i c) f e = rw (eqb-true i h (and-left (eqb i h) (eqb c q) e), eqb-true c q (and-right (eqb i h) (eqb c q) e))
+  value-there (Deliver i s) f e = cc
+  value-there Nothing f e = cc
 
-same-clears : (h q : ℕ) (s : ledger.Step) → is-harvest h q (as-call s) ≡ is-clear h q s
-unfolding as-call is-harvest is-clear
-same-clears h q (ledger.count i c w) = refl
-same-clears h q (ledger.clear i c) = refl
-same-clears h q (ledger.deliver i s) = refl
+  -- an action that answered n and v: what it adds to the sum is what the theory reads
+  module _ {r k : ℕ} (now : CardsAt r k) (a : Action) (n v : ℕ) where
+    adds : accepted r (offer (ledger-action a) n) (now .chassis) ≡ was-accepted n → (n ≡ 0 → ClearsByReading h q a)
+        → (n ≡ 0 → v ≡ value-asked a (λ i c. ledger-value i (now .ledgers c)))
+        → cond (was-accepted n && is-read-and-clear h q a) v 0
+        ≡ cond (accepted r (offer (ledger-action a) n) (now .chassis) && is-clear h q (ledger-action a)) (read-value r q (now .chassis .replica h)) 0
+    adds same only answers =
+        by-place n 0
+        (λ e.
+        let is = same-clear a (only e) in
+        by-test (is-read-and-clear h q a)
+        (λ t. rw (same, eq-eqb n 0 e, ← is, t)
+        (answers e ∙ value-there a (λ i c. ledger-value i (now .ledgers c)) t ∙ sym (value-is r q (now .chassis) (now .ledgers q) (now .in-step .invariants q) h)))
+        (λ t. rw (same, eq-eqb n 0 e, ← is, t)))
+        (λ d. rw (same, ne-eqb n 0 d))
 
-only-harvest : (h q : ℕ) (s : ledger.Step) → ClearedBy h q s → ClearsAsHarvest h q (as-call s)
-unfolding as-call
-only-harvest h q (ledger.count i c w) by = tt
-only-harvest h q (ledger.clear i c) by = by
-only-harvest h q (ledger.deliver i s) by = tt
+-- ---- lists, of whatever asks for actions and is steps to the ledger
 
-module _ (r k h q : ℕ) (hh : h < r) (hq : q < k) where
-  -- what the theory reads at a clear of q by h is what the words give
-  read-there : (s : ledger.Step) (ch : Chassis) → is-clear h q s ≡ true → value-read r (as-call s) ch ≡ read-value r q (ch .replica h)
-  unfolding as-call is-clear value-read
-  read-there (ledger.count i c w) ch e = cc
-  read-there (ledger.clear i c) ch e = rw (eqb-true i h (and-left (eqb i h) (eqb c q) e), eqb-true c q (and-right (eqb i h) (eqb c q) e))
-  read-there (ledger.deliver i s) ch e = cc
+module _ {X : Type 0} (action : X → Action) (step : X → ledger.Step) (same : (x : X) → step x ≡ ledger-action (action x)) where
+  only-one : (h q : ℕ) (xs : List X) (ns : List ℕ) → OnlyReadAndClears h q (map action xs) ns → OneClears h q (map step xs) (accepted-of ns)
+  only-one h q [] ns only = tt
+  only-one h q (x ∷ xs) [] only = tt
+  only-one h q (x ∷ xs) (n ∷ ns) (only, rest) =
+      (λ e. rw (same x) (only-cleared h q (action x) (only (eqb-true n 0 e))), only-one h q xs ns rest)
 
-  module _ (now : DriverAt r k) where
-    value-now : read-value r q (now .chassis .replica h) ≡ read-on (now .state .words h) q .value
-    unfolding ledger-reading
-    value-now =
-        value-is r q (now .chassis) (now .ledgers q) (now .matches .cards .invariants q) h
-        ∙ sym (ap (λ (a : Reading). a .value) (read-matches (driver-cards now) h q hh hq))
+run-sum : {r k L : ℕ} (h q : ℕ) (ss : List Step) (now : RunAt r k L)
+    → OnlyReadAndClears h q (map action-of ss) (numbers-in (answers-of r k L ss (now .state)))
+    → collected h q (map action-of ss) (numbers-in (answers-of r k L ss (now .state))) (values-in (answers-of r k L ss (now .state)))
+    ≡ read-before r h q (run-offers r k L ss (now .state)) (now .chassis)
+unfolding answers-of numbers-in values-in offers-of collected read-before
+run-sum h q [] now only = refl
+run-sum {r} {k} {L} h q (s ∷ ss) now (only, rest) =
+    let here = step-matches now s in
+    let answer = step-on r k L s (now .state) .answer in
+    ap₂ _+_ (adds h q (run-cards now) (action-of s) (answer .number) (answer .value) (here .1) only (accepted-value now 0 (action-of s)))
+    (run-sum h q ss (run-at (here .0)) rest)
 
-    read-at : (s : ledger.Step) (a : Bool)
-        → cond (is-harvest h q (as-call s)) (cond a (value-read r (as-call s) (now .chassis)) 0) 0 ≡ cond (a && is-clear h q s) (read-on (now .state .words h) q .value) 0
-    read-at s a =
-        by-test (is-clear h q s)
-        (λ e. rw (same-clears h q s, e, read-there s (now .chassis) e, value-now) (both a))
-        (λ e. rw (same-clears h q s, e, and-no-right a false refl))
-      where
-        both : (a : Bool) → cond a (read-on (now .state .words h) q .value) 0 ≡ cond (a && true) (read-on (now .state .words h) q .value) 0
-        both true = refl
-        both false = refl
+call-is : (c : Call) → call-step c ≡ ledger-action (call-action c)
+unfolding ledger-action
+call-is (make m i q out) = refl
+call-is (take i bytes) = refl
 
-  -- the list of the theory's calls: it reads what the driver reads, and only h's clears of q are accepted there
-  record Collects (cs : List Call) (st : Cards) (ch : Chassis) : Type 0 where
-    sum-is : harvested h q (calls-offered cs (numbers cs st)) (second-answers r (calls-offered cs (numbers cs st)) ch) ≡ collected h q cs st
-    only : OnlyHarvests h q (calls-offered cs (numbers cs st)) (answers r (map offer-of (calls-offered cs (numbers cs st))) ch)
+history-sum : {r k : ℕ} (h q : ℕ) (cs : List Call) (now : DriverAt r k) → Genuine cs (now .state)
+    → OnlyReadAndClears h q (map call-action cs) (numbers cs (now .state))
+    → collected h q (map call-action cs) (numbers cs (now .state)) (values cs (now .state)) ≡ read-before r h q (history-offers cs (now .state)) (now .chassis)
+unfolding numbers values offers-of collected read-before
+history-sum h q [] now g only = refl
+history-sum h q (c ∷ cs) now (g, gs) (only, rest) =
+    let here = call-matches now c g in
+    ap₂ _+_
+    (rw (call-is c) (adds h q (driver-cards now) (call-action c) (number-of c (now .state)) (value-of c (now .state)) (rw (call-is c) at (here .1)) only (call-value now c)))
+    (history-sum h q cs (driver-at (here .0)) gs rest)
 
-  history-collects : (cs : List Call) (now : DriverAt r k) → Genuine cs (now .state) → OneClears h q cs (now .state) → Collects cs (now .state) (now .chassis)
-  unfolding calls-offered numbers harvested second-answers answers collected
-  history-collects [] now g one = record { sum-is = refl; only = tt }
-  history-collects (c ∷ cs) now (g, gs) (one, ones) =
-      let here = call-matches now c g in
-      let rest = history-collects cs (driver-at (here .0)) gs ones in
-      let number = number-of c (now .state) in
-      record {
-        sum-is = rw (same-step (call-step c)) (ap₂ _+_ (rw (here .1) (read-at now (call-step c) (was-accepted number))) (rest .sum-is));
-        only = rw (same-step (call-step c)) (λ e. only-harvest h q (call-step c) (one (eqb-true number 0 (sym (here .1) ∙ e))), rest .only);
-      }
+-- ---- the total
 
-pub harvest-total : (r k q h : ℕ) → sizes-in-range r k ≡ true → (calls : List Call) → GenuineHistory r k calls → OneClears h q calls (opened r k)
-    → h < r → q < k
-    → collected h q calls (opened r k) + read-on (cards-after r k calls .words h) q .value ≡ length (history-ledger r k calls q .received h)
-harvest-total r k q h right calls genuine one hh hq =
-    let t = theory-history r k right calls genuine in
-    let ns = numbers calls (opened r k) in
-    let os = calls-offered calls ns in
-    let all = history-collects r k h q hh hq calls (driver-at (opened-matches r k (sizes r k right))) genuine one in
-    let total = names-received r q h os (all .only) in
-    let value = reads.value-read t h q hh hq in
-    let after-step = told t (λ ss fs. length (after-steps r q ss fs empty-ledger .received h)) in
-    rw (← (all .sum-is), value, after-step, ← (same-offers calls ns)) total
+module _ {r k : ℕ} {steps : List ledger.Step} {numbers : List ℕ} {replicas : ℕ → List ℕ} (t : TheoryRun r k steps numbers replicas) (h q : ℕ) where
+  increments-named : increments-received h q steps (accepted-of numbers) ≡ length (ledgers-told r steps numbers q .received h)
+  increments-named =
+      told t (λ ss fs. increments-received h q ss fs)
+      ∙ received-told r q h (offers-of steps numbers)
+      ∙ sym (told t (λ ss fs. length (after-steps r q ss fs empty-ledger .received h)))
+
+  total-told : h < r → q < k → OneClears h q steps (accepted-of numbers) → (sum : ℕ) → sum ≡ read-before r h q (offers-of steps numbers) fresh-chassis
+      → sum + read-on (replicas h) q .value ≡ increments-received h q steps (accepted-of numbers)
+  total-told hh hq one sum is =
+      rw (is, reads.value-read t h q hh hq)
+      (names-received r q h (offers-of steps numbers) (rw (told t (OneClears h q)) at one)
+      ∙ sym (received-told r q h (offers-of steps numbers))
+      ∙ sym (told t (λ ss fs. increments-received h q ss fs)))
+
+module _ (r k L : ℕ) (steps : List Step) (words logs answers : List ℕ) (right : sizes-right r k L (length steps) words logs answers ≡ true) (h q : ℕ) where
+  abbrev given : List ℕ
+  given = run-on r k L steps words logs answers .answers
+
+  pub run-total : h < r → q < k → OnlyReadAndClears h q (map action-of steps) (numbers-in given)
+      → collected h q (map action-of steps) (numbers-in given) (values-in given) + read-on (part (replica-length r k) (run-on r k L steps words logs answers .words) h) q .value
+      ≡ increments-received h q (map ledger-step steps) (accepted-of (numbers-in given))
+  run-total hh hq only =
+      let z = right-sizes r k L (length steps) words logs answers right in
+      let are = answers-are r k L steps words logs answers right in
+      total-told (theory-run r k L steps words logs answers right) h q hh hq (only-one action-of ledger-step (λ s. refl) h q steps (numbers-in given) only) _
+      (rw are (run-sum h q steps (run-at (fresh-matches r k L logs (z .0) (z .1))) (rw are at only)))
+
+  pub run-increments : increments-received h q (map ledger-step steps) (accepted-of (numbers-in given)) ≡ length (ledger-of r q steps given .received h)
+  unfolding ledger-of
+  run-increments = increments-named (theory-run r k L steps words logs answers right) h q
+
+module _ (r k : ℕ) (right : sizes-in-range r k ≡ true) (calls : List Call) (genuine : GenuineHistory r k calls) (h q : ℕ) where
+  abbrev called : List ℕ
+  called = numbers calls (opened r k)
+
+  pub history-total : h < r → q < k → OnlyReadAndClears h q (map call-action calls) called
+      → collected h q (map call-action calls) called (values calls (opened r k)) + read-on (cards-after r k calls .words h) q .value
+      ≡ increments-received h q (map call-step calls) (accepted-of called)
+  history-total hh hq only =
+      total-told (theory-history r k right calls genuine) h q hh hq (only-one call-action call-step call-is h q calls called only) _
+      (history-sum h q calls (driver-at (opened-matches r k (sizes r k right))) genuine only)
+
+  pub history-increments : increments-received h q (map call-step calls) (accepted-of called) ≡ length (history-ledger r k calls q .received h)
+  history-increments = increments-named (theory-history r k right calls genuine) h q

@@ -4,7 +4,7 @@ use mathlib.Core.Path.{_≡_, refl, sym, ap, _∙_}
 use mathlib.Core.List.{List}
 use borrow.Author.Tests.{lt-ltb}
 use Rattle.protocol.specs.Entry.{present}
-use Rattle.protocol.specs.Ledger.{holds}
+use Rattle.protocol.specs.Ledger.{holds, ledger-value}
 use Rattle.protocol.specs.Chassis.{Replica, read-value, read-holders}
 use Rattle.protocol.specs.StoreLaws.{Shows, value-shown, holders-shown}
 use Rattle.protocol.specs.Makers.{holds-is}
@@ -12,6 +12,7 @@ use Rattle.protocol.specs.Theorem.{value-is, holders-are}
 use Rattle.protocol.specs.Functions.{count-below}
 use Rattle.protocol.specs.AcceptanceLaws.{count-cong}
 use Rattle.replica_model.specs.Layout.{cards, counters, entry-of, layout}
+use Rattle.replica_model.specs.declared.Reading.{Reading}
 use Rattle.replica_model.specs.Calls.{reading, read-on, holders}
 use Rattle.replica_model.specs.ClaimTerms.{Right, RowOf}
 use Rattle.replica_model.specs.RowLaws.{right-from, row-from}
@@ -20,7 +21,7 @@ use Rattle.chassis_model.specs.Ledger.{ledger-reading}
 use Rattle.chassis_model.specs.InStep.{Heads, CardsAt, reached-right, reached-row}
 
 -- where the checks pass
-read-passes : (b : List ℕ) (q : ℕ) → Right b → q < counters b → RowOf b q → read-on b q ≡ reading b q
+pub read-passes : (b : List ℕ) (q : ℕ) → Right b → q < counters b → RowOf b q → read-on b q ≡ reading b q
 read-passes b q f l w = let d = read-decided b q in d .accepted (d .exact 0 .1 (right-from b f, (lt-ltb q (counters b) l, (row-from b q w, refl))))
 
 -- what is read, in words that show a replica
@@ -48,14 +49,21 @@ module _ {r k : ℕ} (now : CardsAt r k) (i q : ℕ) (hi : i < r) (hq : q < k) w
       (count-cong r (λ j. present (entry-of r (now .replicas i) q j)) (λ j. holds i j (now .ledgers q))
       (λ j l. ap present (now .in-step .cards-show .shows i hi .entries q j hq l) ∙ holding-is j))
 
-  pub read-matches : read-on (now .replicas i) q ≡ ledger-reading r i (now .ledgers q)
+  reading-matches : reading (now .replicas i) q ≡ ledger-reading r i (now .ledgers q)
   unfolding ledger-reading
-  read-matches =
-      let on = now .in-step .cards-show .heads i hi in
-      read-passes (now .replicas i) q (reached-right now i hi) (rw (on .counters-are) hq) (reached-row now i q hi hq)
-      ∙ reading-shown r k i q (now .replicas i) (now .chassis .replica i) on (now .in-step .cards-show .shows i hi) hq
+  reading-matches =
+      reading-shown r k i q (now .replicas i) (now .chassis .replica i) (now .in-step .cards-show .heads i hi) (now .in-step .cards-show .shows i hi) hq
       ∙ rw (
         value-is r q (now .chassis) (now .ledgers q) (now .in-step .invariants q) i,
         holders-are r q (now .chassis) (now .ledgers q) (now .in-step .invariants q) i,
         count-cong r (λ j. present (now .chassis .replica i .entry q j)) (λ j. holds i j (now .ledgers q)) (λ j l. holding-is j),
       )
+
+  pub read-matches : read-on (now .replicas i) q ≡ ledger-reading r i (now .ledgers q)
+  read-matches =
+      let on = now .in-step .cards-show .heads i hi in
+      read-passes (now .replicas i) q (reached-right now i hi) (rw (on .counters-are) hq) (reached-row now i q hi hq) ∙ reading-matches
+
+  pub value-reads : reading (now .replicas i) q .value ≡ ledger-value i (now .ledgers q)
+  unfolding ledger-reading
+  value-reads = ap (λ (a : Reading). a .value) reading-matches

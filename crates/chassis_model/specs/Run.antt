@@ -8,17 +8,17 @@ use Rattle.protocol.specs.Checks.{Check, or-else, checked}
 use Rattle.protocol.specs.Limits.{short-output, bad-card, bad-sizes, bad-kind, nothing-waiting, log-full}
 use Rattle.wire.specs.Number.{int-at, unsigned-int}
 use Rattle.replica_model.specs.Layout.{replica-length, N-of, fresh-words}
-use Rattle.replica_model.specs.Calls.{sizes-in-range, SendOutcome, count-on, clear-on, take-on}
+use Rattle.replica_model.specs.Calls.{sizes-in-range, count-on, clear-on, ClearedOutcome, with-value, read-and-clear-on, take-on}
 use Rattle.chassis_model.specs.ListParts.{part, put-part}
 use Rattle.chassis_model.specs.Log.{waiting-part, end-of}
 pub use Rattle.chassis_model.specs.declared.Step.{Step}
 pub use Rattle.chassis_model.specs.declared.Making.{Making}
-pub use Rattle.chassis_model.specs.declared.Making.the-variants.{Count, Clear}
+pub use Rattle.chassis_model.specs.declared.Making.the-variants.{Count, Clear, ReadAndClear}
 pub use Rattle.chassis_model.specs.declared.Action.{Action}
 pub use Rattle.chassis_model.specs.declared.Action.the-variants.{Make, Deliver, Nothing}
 pub use Rattle.chassis_model.specs.declared.StepAnswer.{StepAnswer}
 
--- "1 count (card, counter), 2 clear (card, counter), 3 deliver (receiver, sender)"
+-- "1 count (card, counter), 2 clear (card, counter), 3 deliver (receiver, sender), 4 read and clear (card, counter)"
 abbrev pub count-kind : ℕ
 count-kind = 1
 
@@ -28,17 +28,22 @@ clear-kind = 2
 abbrev pub deliver-kind : ℕ
 deliver-kind = 3
 
+abbrev pub read-and-clear-kind : ℕ
+read-and-clear-kind = 4
+
 -- what a step asks for: the one place where its numbers are looked at
 unfoldable pub action-of : Step → Action
 action-of s =
     cond (eqb (s .kind) count-kind) (Make Count (s .first) (s .second))
     (cond (eqb (s .kind) clear-kind) (Make Clear (s .first) (s .second))
-    (cond (eqb (s .kind) deliver-kind) (Deliver (s .first) (s .second)) Nothing))
+    (cond (eqb (s .kind) deliver-kind) (Deliver (s .first) (s .second))
+    (cond (eqb (s .kind) read-and-clear-kind) (Make ReadAndClear (s .first) (s .second)) Nothing)))
 
--- the call that makes a message on counter q
-unfoldable pub call-of : Making → ℕ → List ℕ → List ℕ → SendOutcome
-call-of Count q b out = count-on b q out
-call-of Clear q b out = clear-on b q out
+-- the call that makes a message on counter q, with the value that it reads: 0 for a count and a clear
+unfoldable pub call-of : Making → ℕ → List ℕ → List ℕ → ClearedOutcome
+call-of Count q b out = with-value 0 (count-on b q out)
+call-of Clear q b out = with-value 0 (clear-on b q out)
+call-of ReadAndClear q b out = read-and-clear-on b q out
 
 -- the words of r replicas, and the bytes of r logs of L bytes each
 pub record State : Type 0 where
@@ -50,19 +55,31 @@ pub record Stepped : Type 0 where
   pub answer : StepAnswer
   pub state : State
 
+-- an answer that is a number and no value
 abbrev pub answered : ℕ → StepAnswer
-answered number = record { number = number }
+answered number = record { number = number; value = 0 }
 
 abbrev pub declined : State → ℕ → Stepped
 declined st number = record { answer = answered number; state = st }
 
--- "one answer word for each step": a step's answer as words
+-- "Each step has two answer words, one after the other: its number, then the value read"
 abbrev pub answer-words : StepAnswer → List ℕ
-answer-words a = a .number ∷ []
+answer-words a = a .number ∷ a .value ∷ []
 
 -- how many they are
 abbrev pub answer-length : ℕ
-answer-length = 1
+answer-length = 2
+
+-- of the answer words of a list of steps: the numbers, and the values
+unfoldable pub numbers-in : List ℕ → List ℕ
+numbers-in [] = []
+numbers-in (n ∷ []) = []
+numbers-in (n ∷ v ∷ rest) = n ∷ numbers-in rest
+
+unfoldable pub values-in : List ℕ → List ℕ
+values-in [] = []
+values-in (n ∷ []) = []
+values-in (n ∷ v ∷ rest) = v ∷ values-in rest
 
 -- "All replicas begin fresh": those of the first n of r cards
 unfoldable pub fresh-replicas : ℕ → ℕ → ℕ → List ℕ
@@ -85,12 +102,12 @@ module _ (r k L : ℕ) where
   free-from st i = end-of (N-at st i i) (log-of st i)
 
   -- a message made by card i, with the rest of its log as the call's output; where that is too short the step answers 14
-  unfoldable pub made : ℕ → (List ℕ → List ℕ → SendOutcome) → State → Stepped
+  unfoldable pub made : ℕ → (List ℕ → List ℕ → ClearedOutcome) → State → Stepped
   made i call st =
       let at = free-from st i in
       let done = call (replica-of st i) (drop at (log-of st i)) in
       record {
-        answer = answered (cond (eqb (done .answer .number) short-output) log-full (done .answer .number));
+        answer = record { number = cond (eqb (done .answer .number) short-output) log-full (done .answer .number); value = done .answer .value };
         state = record {
           words = put-part (replica-length r k) i (done .words) (st .words);
           logs = put-part L i (take at (log-of st i) ++ done .out) (st .logs);
@@ -134,10 +151,10 @@ module _ (r k L : ℕ) where
   answers-of [] st = []
   answers-of (s ∷ ss) st = answer-words (step-on s st .answer) ++ answers-of ss (step-on s st .state)
 
-  -- "Sizes are right when r and k are in range, the words are r replicas long, the log is r times L bytes and there is one answer word for each step."
+  -- "Sizes are right when r and k are in range, the words are r replicas long, the log is r times L bytes and there are two answer words for each step."
   unfoldable pub sizes-right : ℕ → List ℕ → List ℕ → List ℕ → Bool
   sizes-right steps words logs answers =
-      sizes-in-range r k && eqb (length words) (r * replica-length r k) && eqb (length logs) (r * L) && eqb (length answers) steps
+      sizes-in-range r k && eqb (length words) (r * replica-length r k) && eqb (length logs) (r * L) && eqb (length answers) (answer-length * steps)
 
 -- what a run answers, and what it leaves in the words, the logs and the answers
 pub record RunOutcome : Type 0 where

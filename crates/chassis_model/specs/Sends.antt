@@ -1,7 +1,7 @@
 -- LAWS. What card i of a chassis in step with the theory does when it is to make a message: it answers 3, 4 or 5 and leaves all as it was, or it sends the
 -- theory's message, which can be read again and keeps to the limits, and its words are those of the chassis with that message issued.
 use Prim.Native.Nat.{ℕ, suc, _+_, _≤_, _<_}
-use mathlib.Core.Path.{_≡_, refl, sym, ap, _∙_}
+use mathlib.Core.Path.{_≡_, refl, sym, ap, ap₂, _∙_}
 use mathlib.Core.Logic.{_≢_}
 use mathlib.Core.List.{List, [], _∷_}
 use native.Mathlib.Omega.{arith}
@@ -11,26 +11,27 @@ use borrow.Author.Tests.{ltb-true, leb-true, le-ltb}
 use Rattle.protocol.specs.Limits.{MAX, short-output}
 use Rattle.protocol.specs.Cases.{by-place, by-le}
 use Rattle.protocol.specs.Tables.{put}
+use Rattle.protocol.specs.Ledger.{ledger-value}
 use Rattle.protocol.specs.Chassis.{Message, Chassis, issued}
 use Rattle.protocol.specs.Checks.{or-else, first-failing}
 use Rattle.protocol.specs.ChecksLaws.{first-is, first-passes, all-second}
 use Rattle.wire.specs.Message.{message-bytes, message-length, over}
 use Rattle.wire.specs.Claims.{message-bytes-length}
 use Rattle.replica_model.specs.Layout.{cards, counters, own-card, N-of}
-use Rattle.replica_model.specs.Calls.{SendOutcome, left-checks, send-checks, not-sent, sent-with, words-after}
+use Rattle.replica_model.specs.Calls.{SendOutcome, left-checks, send-checks, not-sent, sent-with, words-after, ClearedOutcome, with-value}
 use Rattle.replica_model.specs.ClaimTerms.{Writable}
 use Rattle.replica_model.specs.RowLaws.{right-from, row-from}
 use Rattle.replica_model.specs.AcceptedCalls.{sent-facts}
 use Rattle.replica_model.specs.Format.{on-wire, size-of, format-1}
 use Rattle.chassis_model.specs.Run.{Making, Make, call-of}
 use Rattle.chassis_model.specs.Ledger.{ledger-action}
-use Rattle.chassis_model.specs.Answers.{message-size, step-size, maker-checks}
+use Rattle.chassis_model.specs.Answers.{message-size, step-size, maker-checks, value-asked}
 use Rattle.chassis_model.specs.LogLaws.{Readable}
 use Rattle.chassis_model.specs.Numbered.{Sendable}
 use Rattle.chassis_model.specs.InStep.{CardsShow, CardsAt, reached-right, reached-row, reached-N}
 use Rattle.chassis_model.specs.Moves.{issued-cards-show}
-use Rattle.chassis_model.specs.Makings.{message-of, own-message, own-size, making, message-sendable, message-writable, message-shown}
-use Rattle.chassis_model.specs.Reads.{holders-counted}
+use Rattle.chassis_model.specs.Makings.{message-of, own-message, own-size, own-value, making, message-sendable, message-writable, message-shown}
+use Rattle.chassis_model.specs.Reads.{holders-counted, value-reads}
 
 -- what is known of a message x that card i, with the words b, may send next
 pub record Outgoing (r k i : ℕ) (b : List ℕ) (x : Message) : Type 0 where
@@ -106,10 +107,15 @@ module _ {r k : ℕ} (now : CardsAt r k) (m : Making) (i q : ℕ) (hi : i < r) w
       (λ hq. sym first ∙ rw (right, on .counters-are, row-from b q (reached-row now i q hi hq), own, own-told hq))
       (λ far. sym first ∙ rw (right, on .counters-are, le-ltb q k (omega arith)))
 
+  -- the value that it answers where it is accepted
+  abbrev pub value-told : ℕ
+  value-told = value-asked (Make m i q) (λ j c. ledger-value j (now .ledgers c))
+
   -- one of two things comes of the call
-  pub call-cases : (P : SendOutcome → Type 0) (out : List ℕ)
-      → ((n : ℕ) → n ≢ 0 → n ≡ told (length out) → P (not-sent n b out))
-      → (0 ≡ told (length out) → q < k → Outgoing r k i b (next-message r (now .chassis) m i q) → message-size r m i q (now .ledgers q) ≤ length out → P (sent-outcome r i b out (next-message r (now .chassis) m i q)))
+  pub call-cases : (P : ClearedOutcome → Type 0) (out : List ℕ)
+      → ((n : ℕ) → n ≢ 0 → n ≡ told (length out) → P (with-value 0 (not-sent n b out)))
+      → (0 ≡ told (length out) → q < k → Outgoing r k i b (next-message r (now .chassis) m i q) → message-size r m i q (now .ledgers q) ≤ length out
+      → P (with-value value-told (sent-outcome r i b out (next-message r (now .chassis) m i q))))
       → P (call-of m q b out)
   call-cases P out refuses sends =
       let on = now .in-step .cards-show .heads i hi in
@@ -123,7 +129,10 @@ module _ {r k : ℕ} (now : CardsAt r k) (m : Making) (i q : ℕ) (hi : i < r) w
       let hq = ltb-true q k there in
       let room = leb-true size (length out) (all-second (left-checks N) (or-else (leb size (length out)) short-output ∷ []) rest .0) in
       let few : N < MAX = rw (on .cards-are, on .own-is) at (sent-facts b q out (own-size m b q) (d .exact 0 .0 e) .more) in
-      rw (d .accepted e, as-outcome b out (own-message m b q), message-shown m r k i q b (now .chassis .replica i) on (now .in-step .cards-show .shows i hi) hi hq, on .own-is, on .cards-are)
+      let value : own-value m b q ≡ value-told = making m .asks (own-card b) i q _ _ (value-reads now i q hi hq) in
+      let is : call-of m q b out ≡ with-value value-told (sent-outcome (cards b) (own-card b) b out (own-message m b q))
+      = d .accepted e ∙ ap₂ (λ (v : ℕ) (o : SendOutcome). with-value v o) value (as-outcome b out (own-message m b q)) in
+      rw (is, message-shown m r k i q b (now .chassis .replica i) on (now .in-step .cards-show .shows i hi) hi hq, on .own-is, on .cards-are)
       (sends none hq (next-outgoing hq few) room))
       (λ some. rw (d .refused some) (refuses n some (call-told out)))
 

@@ -17,7 +17,7 @@ use Rattle.protocol.specs.Chassis as protocol
 use Rattle.protocol.specs.Chassis.{done, enabled}
 use Rattle.protocol.specs.Enabled.{deliverable}
 use Rattle.replica_model.specs.Layout.{replica-length}
-use Rattle.chassis_model.specs.Run.{Making, Action, Make, Deliver, Nothing, State, Stepped, answered, declined, replica-of, log-of, N-at, step-checks, performed, acted, Step, action-of, call-of, made, delivered, step-on}
+use Rattle.chassis_model.specs.Run.{Making, Action, Make, Deliver, Nothing, State, Stepped, declined, replica-of, log-of, N-at, step-checks, performed, acted, Step, action-of, call-of, made, delivered, step-on}
 use Rattle.chassis_model.specs.Ledger.{ledger-action, was-accepted, ledger-step}
 use Rattle.chassis_model.specs.Numbered.{wire-log}
 use Rattle.chassis_model.specs.InStep.{CardsShow, reached-N}
@@ -25,7 +25,7 @@ use Rattle.chassis_model.specs.Offers.{offer}
 use Rattle.chassis_model.specs.Matches.{Holds, Matches, RunAt, run-cards, N-in}
 use Rattle.chassis_model.specs.Moves.{done-after, accepted-in-step}
 use Rattle.chassis_model.specs.Makings.{making-enabled, making-done}
-use Rattle.chassis_model.specs.Sends.{next-message, size-is}
+use Rattle.chassis_model.specs.Sends.{next-message, value-told, size-is}
 use Rattle.chassis_model.specs.MadeSteps.{made-cases, state-made, made-words-fit, made-logs-fit, made-shows, made-holds}
 use Rattle.chassis_model.specs.DeliveredSteps.{state-delivered, one-delivered, delivered-fits, delivered-shows, delivered-holds}
 
@@ -86,12 +86,12 @@ module _ {r k L : ℕ} (now : RunAt r k L) (a : Action) where
   unfolding protocol.stepped after-step
   declined-matches number some = rw (ne-eqb number 0 some) (now .matches, refl)
 
-  accepted-matches : (after : State) → enabled r (ledger-action a) (now .chassis) ≡ true
+  accepted-matches : (value : ℕ) (after : State) → enabled r (ledger-action a) (now .chassis) ≡ true
       → length (after .words) ≡ r * replica-length r k → length (after .logs) ≡ r * L
       → CardsShow r k (replica-of r k L after) (done r (ledger-action a) (now .chassis))
       → ((j : ℕ) → j < r → Holds (log-of r k L after j) (wire-log j (done r (ledger-action a) (now .chassis) .log j)))
-      → StepMatches now a (record { answer = answered 0; state = after })
-  accepted-matches after on words logs cards-show holds = (
+      → StepMatches now a (record { answer = record { number = 0; value = value }; state = after })
+  accepted-matches value after on words logs cards-show holds = (
     record {
       words-fit = words;
       logs-fit = logs;
@@ -114,7 +114,7 @@ module _ {r k L : ℕ} (now : RunAt r k L) where
       let x = next-message r (now .chassis) m i q in
       let is = making-done m r i q (now .chassis) in
       let room = rw (← (size-is (run-cards now) m i q hi hq (goes .few))) at fits in
-      accepted-matches now a (state-made now i x) (making-enabled m r i q (now .chassis) hi)
+      accepted-matches now a (value-told (run-cards now) m i q hi) (state-made now i x) (making-enabled m r i q (now .chassis) hi)
       (made-words-fit now i hi x goes)
       (made-logs-fit now i hi x goes room)
       (rw is (made-shows now i hi x goes))
@@ -125,7 +125,7 @@ module _ {r k L : ℕ} (now : RunAt r k L) where
   unfolding ledger-action done
   link-matches i s (hi, hs, apart) waits =
       rw (one-delivered now i s hi hs waits apart)
-      (accepted-matches now (Deliver i s) (state-delivered now i s)
+      (accepted-matches now (Deliver i s) 0 (state-delivered now i s)
       (deliverable r i s (now .chassis) (record {
         receiver = hi;
         sender = hs;

@@ -1,7 +1,7 @@
 -- LAWS. A run beside the ledgers: by induction over the steps every state is reached, so reads are the ledger's readings and answers are those due.
 use Prim.Native.Nat.{ℕ, _*_, _<_}
-use mathlib.Core.Path.{_≡_, refl, ap, ap₂, _∙_}
-use mathlib.Core.Bool.{Bool, true}
+use mathlib.Core.Path.{_≡_, refl, sym, ap, ap₂, subst, _∙_}
+use mathlib.Core.Bool.{Bool, true, cond}
 use mathlib.Core.List.{List, [], _∷_, _++_, map}
 use lib.ListN.{length, getD}
 use Rattle.protocol.specs.Ledger as ledger
@@ -14,9 +14,9 @@ use Rattle.replica_model.specs.Calls.{read-on}
 use Rattle.replica_model.specs.RowLaws.{sizes}
 use Rattle.replica_model.specs.RowLaws.{tests}
 use Rattle.chassis_model.specs.ListParts.{part}
-use Rattle.chassis_model.specs.Run.{Step, State, StepAnswer, replica-of, step-on, state-after, answers-of, sizes-right, run-on, steps-of, run-bytes-on}
-use Rattle.chassis_model.specs.Ledger.{ledger-step, accepted-of, ledger-of, ledger-reading}
-use Rattle.chassis_model.specs.Answers.{fresh-state, due-answer, run-answer}
+use Rattle.chassis_model.specs.Run.{Step, action-of, State, StepAnswer, replica-of, step-on, state-after, answers-of, numbers-in, sizes-right, run-on, steps-of, run-bytes-on}
+use Rattle.chassis_model.specs.Ledger.{ledger-step, was-accepted, accepted-of, ledger-of, ledger-reading}
+use Rattle.chassis_model.specs.Answers.{fresh-state, value-asked, due-answer, answer-in, run-answer}
 use Rattle.chassis_model.specs.Matches.{Sizes, Matches, RunAt, run-at}
 use Rattle.chassis_model.specs.FreshRun.{fresh-matches}
 use Rattle.chassis_model.specs.StepLaws.{step-matches}
@@ -24,25 +24,25 @@ use Rattle.chassis_model.specs.Offers.{offers-of, TheoryRun}
 use Rattle.chassis_model.specs.TheoryReads.{reading-is}
 use Rattle.chassis_model.specs.Agreement.{same-reads}
 use Rattle.chassis_model.specs.RunLaws.{accepted-sizes, whole-steps, accepted-sizes-over-bytes}
-use Rattle.chassis_model.specs.AnswerLaws.{step-answer, answer-at, due-is-answer}
+use Rattle.chassis_model.specs.AnswerLaws.{step-value, step-answer, answer-at, due-is-answer}
 
 -- the ledgers after a list of steps
 abbrev pub ledgers-after : ℕ → ℕ → ℕ → List Step → State → (ℕ → Ledger) → ℕ → Ledger
-ledgers-after r k L ss st ls q = after-steps r q (map ledger-step ss) (accepted-of (answers-of r k L ss st)) (ls q)
+ledgers-after r k L ss st ls q = after-steps r q (map ledger-step ss) (accepted-of (numbers-in (answers-of r k L ss st))) (ls q)
 
 -- the list as the theory has it, from a state on
 abbrev pub run-offers : ℕ → ℕ → ℕ → List Step → State → List Offer
-run-offers r k L ss st = offers-of (map ledger-step ss) (answers-of r k L ss st)
+run-offers r k L ss st = offers-of (map ledger-step ss) (numbers-in (answers-of r k L ss st))
 
 offers-steps : (r k L : ℕ) (ss : List Step) (st : State) → map step-of (run-offers r k L ss st) ≡ map ledger-step ss
-unfolding answers-of offers-of
+unfolding answers-of numbers-in offers-of
 offers-steps r k L [] st = refl
 offers-steps r k L (s ∷ ss) st = ap {B = List ledger.Step} (λ xs. ledger-step s ∷ xs) (offers-steps r k L ss (step-on r k L s st .state))
 
 pub run-matches : {r k L : ℕ} (ss : List Step) (now : RunAt r k L)
     → Matches r k L (state-after r k L ss (now .state)) (run r (run-offers r k L ss (now .state)) (now .chassis)) (ledgers-after r k L ss (now .state) (now .ledgers))
-    × (protocol.answers r (run-offers r k L ss (now .state)) (now .chassis) ≡ accepted-of (answers-of r k L ss (now .state)))
-unfolding state-after answers-of offers-of after-steps run protocol.answers
+    × (protocol.answers r (run-offers r k L ss (now .state)) (now .chassis) ≡ accepted-of (numbers-in (answers-of r k L ss (now .state))))
+unfolding state-after answers-of numbers-in offers-of after-steps run protocol.answers
 run-matches [] now = (now .matches, refl)
 run-matches (s ∷ ss) now =
     let here = step-matches now s in
@@ -57,7 +57,7 @@ right-sizes r k L n words logs answers e = let f = simp tests at e in (sizes r k
 -- what a list of steps leaves is a run of the theory
 pub state-run : (r k L : ℕ) (steps : List Step) (logs : List ℕ) → Sizes r k → length logs ≡ r * L
     → let start = fresh-state r k L logs in
-    TheoryRun r k (map ledger-step steps) (answers-of r k L steps start) (replica-of r k L (state-after r k L steps start))
+    TheoryRun r k (map ledger-step steps) (numbers-in (answers-of r k L steps start)) (replica-of r k L (state-after r k L steps start))
 state-run r k L steps logs z fits =
     let ran = run-matches steps (run-at (fresh-matches r k L logs z fits)) in
     record { cards = ran .0 .cards; steps-are = offers-steps r k L steps (fresh-state r k L logs); answers-are = ran .1 }
@@ -72,7 +72,7 @@ module _ (r k L : ℕ) (steps : List Step) (words logs answers : List ℕ) (righ
   unfolding run-on
   words-are = rw right
 
-  pub theory-run : TheoryRun r k (map ledger-step steps) (run-on r k L steps words logs answers .answers)
+  pub theory-run : TheoryRun r k (map ledger-step steps) (numbers-in (run-on r k L steps words logs answers .answers))
       (part (replica-length r k) (run-on r k L steps words logs answers .words))
   theory-run =
       let z = right-sizes r k L (length steps) words logs answers right in
@@ -113,13 +113,24 @@ same-messages-same-reads r k L steps words logs answers right = same-reads (theo
 module _ (r k L : ℕ) (before : List Step) (s : Step) (after : List Step) (words logs answers : List ℕ)
     (right : sizes-right r k L (length (before ++ s ∷ after)) words logs answers ≡ true) where
   pub step-answers : (any : ℕ)
-      → getD (run-on r k L (before ++ s ∷ after) words logs answers .answers) (length before) 0
-      ≡ due-answer r k L any s (state-after r k L before (fresh-state r k L logs)) (λ q. ledger-of r q before (answers-of r k L before (fresh-state r k L logs))) .number
+      → answer-in (run-on r k L (before ++ s ∷ after) words logs answers .answers) (length before)
+      ≡ due-answer r k L any s (state-after r k L before (fresh-state r k L logs)) (λ q. ledger-of r q before (answers-of r k L before (fresh-state r k L logs)))
   unfolding run-on ledger-of
   step-answers any =
       let z = right-sizes r k L (length (before ++ s ∷ after)) words logs answers right in
       let ran = run-matches before (run-at (fresh-matches r k L logs (z .0) (z .1))) in
-      rw right (answer-at r k L before s after (fresh-state r k L logs) ∙ ap (λ (a : StepAnswer). a .number) (step-answer (run-at (ran .0)) any s))
+      rw right (answer-at r k L before s after (fresh-state r k L logs) ∙ step-answer (run-at (ran .0)) any s)
 
-  pub run-answers : run-answer (getD (run-on r k L (before ++ s ∷ after) words logs answers .answers) (length before) 0) ≡ true
-  run-answers = rw (step-answers 0) (due-is-answer r k L 0 s _ _)
+  pub run-answers : run-answer (answer-in (run-on r k L (before ++ s ∷ after) words logs answers .answers) (length before) .number) ≡ true
+  run-answers = ap (λ (a : StepAnswer). run-answer (a .number)) (step-answers 0) ∙ due-is-answer r k L 0 s _ _
+
+  pub step-values : let answer = answer-in (run-on r k L (before ++ s ∷ after) words logs answers .answers) (length before) in
+      let st = state-after r k L before (fresh-state r k L logs) in
+      answer .value ≡ cond (was-accepted (answer .number)) (value-asked (action-of s) (λ i q. read-on (replica-of r k L st i) q .value)) 0
+  unfolding run-on
+  step-values =
+      let st = state-after r k L before (fresh-state r k L logs) in
+      let read = value-asked (action-of s) (λ i q. read-on (replica-of r k L st i) q .value) in
+      rw right
+      (subst (λ (a : StepAnswer). a .value ≡ cond (was-accepted (a .number)) read 0) (sym (answer-at r k L before s after (fresh-state r k L logs)))
+      (step-value r k L st s))

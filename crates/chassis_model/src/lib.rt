@@ -1,7 +1,7 @@
 // What a chassis of several cards joined by logs is and what a run of steps does. The crate holds definitions and claims (specs/) and no
 // function; the types stand here so that the definitions' and the code's are the same.
 
-// One step of a run: 1 count (card, counter), 2 clear (card, counter), 3 deliver (receiver, sender).
+// One step of a run: 1 count (card, counter), 2 clear (card, counter), 3 deliver (receiver, sender), 4 read and clear (card, counter).
 #[repr(C)]
 pub struct Step {
     pub kind: u32,
@@ -9,10 +9,11 @@ pub struct Step {
     pub second: u32,
 }
 
-// What a card makes in a step: a count or a clear.
+// What a card makes in a step: a count or a clear, or a clear that is read before.
 pub enum Making {
     Count,
     Clear,
+    ReadAndClear,
 }
 
 // What a step asks for: that a card makes a message on a counter, that a receiver is handed a sender's message, or nothing that there is.
@@ -22,9 +23,10 @@ pub enum Action {
     Nothing,
 }
 
-// What a step answers.
+// What a step answers: its number, and the value read.
 pub struct StepAnswer {
     pub number: u64,
+    pub value: u64,
 }
 
 // A part of a list of bytes, by its place: where it starts, and how long it is.

@@ -9,7 +9,7 @@ use Rattle.replica_model.specs.Layout.{replica-length}
 use Rattle.replica_model.specs.Calls.{is-quiet, read-on}
 use Rattle.replica_model.specs.declared.Reading.{Reading}
 use Rattle.chassis_model.specs.ListParts.{part}
-use Rattle.chassis_model.specs.Run.{step-length, run-bytes-on}
+use Rattle.chassis_model.specs.Run.{answer-length, step-length, run-bytes-on}
 use Rattle.text.specs.Decimal.{decimal}
 
 -- ---- the text
@@ -98,7 +98,7 @@ input-right input =
 -- the run's words: every replica begins fresh, so what they held before does not matter
 unfoldable pub run-words : ℕ → ℕ → List ℕ → List ℕ
 run-words r k steps =
-    run-bytes-on r k log-bytes steps (replicate (r * replica-length r k) 0) (replicate (r * log-bytes) 0) (replicate (length steps / step-length) 0) .words
+    run-bytes-on r k log-bytes steps (replicate (r * replica-length r k) 0) (replicate (r * log-bytes) 0) (replicate (answer-length * (length steps / step-length)) 0) .words
 
 abbrev pub run-listing : ℕ → ℕ → List ℕ → List ℕ
 run-listing r k steps = header ++ lines r k (run-words r k steps) r

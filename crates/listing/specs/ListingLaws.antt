@@ -12,7 +12,7 @@ use lib.Seq.{take-length, take-all, length-take-le}
 use Rattle.protocol.specs.Cases.{by-le, and-left, and-right, not-yes}
 use Rattle.replica_model.specs.declared.Reading.{Reading}
 use Rattle.replica_model.specs.Layout.{replica-length}
-use Rattle.chassis_model.specs.Run.{step-length, RunOutcome, run-bytes-on}
+use Rattle.chassis_model.specs.Run.{answer-length, step-length, RunOutcome, run-bytes-on}
 use Rattle.text.specs.Decimal.{decimal}
 use Rattle.listing.specs.Listing.{comma, crlf, refused-11, quiet, line, most-listed-cards, most-listed-counters, most-listed-steps, log-bytes, sizes-length, given-cards, given-counters, given-steps, input-bytes, input-right, run-words, run-listing, listing-of}
 use Rattle.listing.specs.Sizes.{Listable, most-words}
@@ -81,7 +81,7 @@ length-front-zeros n m a h = sym (ap length (take-replicate n m a h) ∙ length-
 
 -- a run of words, logs and answers that hold zeros leaves the words of `run-words`
 pub run-words-are : (r k : ℕ) (steps words logs answers words′ logs′ answers′ : List ℕ) (number : ℕ)
-    → words ≡ replicate {A = ℕ} (r * replica-length r k) 0 → logs ≡ replicate {A = ℕ} (r * log-bytes) 0 → answers ≡ replicate {A = ℕ} (length steps / step-length) 0
+    → words ≡ replicate {A = ℕ} (r * replica-length r k) 0 → logs ≡ replicate {A = ℕ} (r * log-bytes) 0 → answers ≡ replicate {A = ℕ} (answer-length * (length steps / step-length)) 0
     → _≡_ {A = RunOutcome} (record { number = number; words = words′; logs = logs′; answers = answers′ }) (run-bytes-on r k log-bytes steps words logs answers)
     → words′ ≡ run-words r k steps
 unfolding run-words

@@ -1,6 +1,7 @@
 // The listing of a run whose sizes and steps are given as bytes.
 use crate::lines;
 use chassis::run;
+use chassis::stepping::ANSWER_WORDS;
 use chassis::steps::STEP_BYTES;
 use replica::words;
 use wire::number;
@@ -69,9 +70,10 @@ fn run_steps(cards: usize, counters: usize, steps: &[u8], words: &mut [u64])
     ensures { λ _. ⌜ now (words .exit) ≡ run-words cards counters (now (steps .entry)) ⌝ }
 {
     let mut logs: [u8; MOST_LISTED_CARDS * LOG_BYTES] = [0; MOST_LISTED_CARDS * LOG_BYTES];
-    let mut answers: [u64; MOST_LISTED_STEPS] = [0; MOST_LISTED_STEPS];
+    let mut answers: [u64; ANSWER_WORDS * MOST_LISTED_STEPS] = [0; ANSWER_WORDS
+        * MOST_LISTED_STEPS];
     let log_end = cards * LOG_BYTES;
-    let count = steps.len() / STEP_BYTES;
+    let answers_end = ANSWER_WORDS * (steps.len() / STEP_BYTES);
     run::run(
         cards as u64,
         counters as u64,
@@ -79,7 +81,7 @@ fn run_steps(cards: usize, counters: usize, steps: &[u8], words: &mut [u64])
         steps,
         words,
         &mut logs[..log_end],
-        &mut answers[..count],
+        &mut answers[..answers_end],
     );
 }
 

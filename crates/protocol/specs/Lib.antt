@@ -14,9 +14,9 @@ pub mod Rows
 pub mod Acceptance
 pub mod Runs
 pub mod Store
--- One counter's own steps; read-and-clear; amounts; deliveries in rounds; messages made and received; what was cleared.
+-- One counter's own steps; increments received; amounts; deliveries in rounds; messages made and received; what was cleared.
 pub mod Alone
-pub mod ReadAndClear
+pub mod Increments
 pub mod InARow
 pub mod AmountRows
 pub mod Singly
@@ -31,8 +31,7 @@ pub mod LedgerClaims
 pub mod LedgerExamples
 pub mod AloneClaims
 pub mod AloneExamples
-pub mod ReadAndClearClaims
-pub mod ReadAndClearExamples
+pub mod IncrementsExamples
 pub mod AmountClaims
 pub mod AmountExamples
 pub mod PendingClaims

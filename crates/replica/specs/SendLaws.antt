@@ -1,15 +1,15 @@
 -- LAWS. What count and clear share: the checks before a message is made, as one number, and the outcome of a message that is made, whatever it says; then what
 -- each of the two sends.
 use Prim.Native.Nat.{ℕ, suc, _+_, _-_, _≤_, _<_}
-use mathlib.Core.Path.{_≡_, refl, sym, _∙_}
+use mathlib.Core.Path.{_≡_, refl, sym, ap, _∙_}
 use mathlib.Core.Logic.{_≢_}
-use mathlib.Core.Bool.{Bool}
+use mathlib.Core.Bool.{Bool, cond}
 use mathlib.Core.List.{List, [], _∷_, _++_}
 use native.Mathlib.Omega.{arith}
 use lib.ListN.{length, take, set, replicate, length-append}
 use lib.Seq.{take-append-seam, set-append-seam, append-snoc}
-use lib.Dec.{leb}
-use borrow.Author.Tests.{le-leb, lt-leb}
+use lib.Dec.{leb, eqb}
+use borrow.Author.Tests.{le-leb, lt-leb, eq-eqb, ne-eqb}
 use Rattle.protocol.specs.Limits.{MAX, most-cards, short-output}
 use Rattle.protocol.specs.Checks.{Check, or-else, checked, first-failing}
 use Rattle.protocol.specs.ChecksLaws.{first-refuses, first-passes, all-accepts, checked-append}
@@ -22,9 +22,10 @@ use Rattle.wire.specs.declared.Message as wire
 use Rattle.wire.specs.Message as form
 use Rattle.wire.specs.Message.{clear-kind, message-bytes, no-entry, over}
 use Rattle.replica_model.specs.declared.Sent.{Sent}
+use Rattle.replica_model.specs.declared.Cleared.{Cleared}
 use Rattle.replica_model.specs.Layout.{cards, own-card, C-of, N-of, entry-of}
 use Rattle.replica_model.specs.Format.{format-1, on-wire, size-of}
-use Rattle.replica_model.specs.Calls.{SendOutcome, making-checks, not-sent, sent-with, send-with, count-of, clear-of, words-after}
+use Rattle.replica_model.specs.Calls.{reading, SendOutcome, making-checks, not-sent, sent-with, send-with, count-of, clear-of, clear-on, ClearedOutcome, with-value, read-and-clear-on, words-after}
 use Rattle.replica_model.specs.Senders.{Sending}
 use Rattle.replica_model.specs.AcceptedCalls.{sending-facts}
 use Rattle.replica_model.specs.PresentLaws.{present-few, present-below}
@@ -34,6 +35,10 @@ use Rattle.replica.specs.Effects.{Receives}
 -- a call that declines: "number, zeros"
 abbrev pub no-sent : ℕ → Sent
 no-sent number = record { number = number; sequence = 0; length = 0 }
+
+-- a value beside what a call that sends answers
+abbrev pub beside : ℕ → Sent → Cleared
+beside value sent = record { number = sent .number; value = value; sequence = sent .sequence; length = sent .length }
 
 -- ---- the checks before a message is made, and the one behind
 
@@ -58,6 +63,29 @@ module _ (b : List ℕ) (q : ℕ) where
 
     pub send-passed : first-failing (making-checks b q) ≡ 0 → with-room b out m ≡ send-with format-1 b q out m
     send-passed none = sym (parts ∙ all-accepts (λ n. not-sent n b out) (with-room b out m) (making-checks b q) (first-passes (making-checks b q) refl none))
+
+-- ---- a clear with the value read before it
+
+module _ (b : List ℕ) (q : ℕ) (out : List ℕ) where
+  -- what the call makes of a clear's outcome
+  abbrev valued : SendOutcome → ClearedOutcome
+  valued done = with-value (cond (eqb (done .answer .number) 0) (reading b q .value) 0) done
+
+  pub read-and-clear-refused : first-failing (making-checks b q) ≢ 0
+      → with-value 0 (not-sent (first-failing (making-checks b q)) b out) ≡ read-and-clear-on b q out
+  unfolding read-and-clear-on clear-on
+  read-and-clear-refused some = rw (ne-eqb (first-failing (making-checks b q)) 0 some) at (ap valued (send-refused b q out (clear-of b q) some))
+
+  module _ (none : first-failing (making-checks b q) ≡ 0) (done : SendOutcome) (cleared : done ≡ with-room b out (clear-of b q)) where
+    is-valued : valued done ≡ read-and-clear-on b q out
+    unfolding read-and-clear-on clear-on
+    is-valued = ap valued (cleared ∙ send-passed b q out (clear-of b q) none)
+
+    pub read-and-clear-short : done .answer .number ≢ 0 → with-value 0 done ≡ read-and-clear-on b q out
+    read-and-clear-short some = rw (ne-eqb (done .answer .number) 0 some) at is-valued
+
+    pub read-and-clear-done : (value : ℕ) → value ≡ reading b q .value → done .answer .number ≡ 0 → with-value value done ≡ read-and-clear-on b q out
+    read-and-clear-done value is sent = rw is (rw (eq-eqb (done .answer .number) 0 sent) at is-valued)
 
 module _ (b : List ℕ) (r q : ℕ) (first : r ≡ cards b) (h : Sending b q) where
   pub row-inside : RowInside b r q

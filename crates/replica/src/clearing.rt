@@ -1,15 +1,17 @@
-// The call that clears: it makes a clear of every present entry, writes it to the output and applies it to the own replica.
+// The calls that clear: each makes a clear of every present entry, writes it to the output and applies it to the own replica.
 use crate::effect;
+use crate::read;
 use crate::sending;
 use crate::words;
 use protocol::ClearEntry;
+use replica_model::Cleared;
 use replica_model::Sent;
 use wire::Message;
 ghost use mathlib.Core.Path.{_≡_};
 ghost use Rattle.replica_model.specs.Layout.{cards};
-ghost use Rattle.replica_model.specs.Calls.{SendOutcome, clear-of, clear-on};
+ghost use Rattle.replica_model.specs.Calls.{SendOutcome, clear-of, clear-on, ClearedOutcome, read-and-clear-on};
 ghost use Rattle.replica_model.specs.Senders.{Sending};
-ghost use Rattle.replica.specs.SendLaws.{with-room};
+ghost use Rattle.replica.specs.SendLaws.{with-room, beside};
 
 // The call where every check but the last has passed. Nothing is written before that one. The message, of every present entry (line 29), is made
 // here and not in a function that returns it, which would copy it.
@@ -71,4 +73,36 @@ pub fn clear(words: &mut [u64], counter: u64, out: &mut [u8]) -> Sent
     }
     let r = words::cards_of(words);
     send_clear(words, r, words::index(counter), out)
+}
+
+// A value beside what a call that sends answers.
+pub fn beside(value: u64, sent: Sent) -> Cleared
+    ensures { λ a. ⌜ a ≡ beside value sent ⌝ }
+{
+    Cleared {
+        number: sent.number,
+        value,
+        sequence: sent.sequence,
+        length: sent.length,
+    }
+}
+
+// The checks are made once, for both. The value is read before anything is written.
+// Ruled out: a value read after the clear (must-fail/value_after_the_clear of crate replica_model), and one of another counter
+// (must-fail/value_of_another_counter).
+pub fn read_and_clear(words: &mut [u64], counter: u64, out: &mut [u8]) -> Cleared
+    ensures { λ a. ⌜ _≡_ {A = ClearedOutcome} (record { answer = a; words = now (words .exit); out = now (out .exit) }) (read-and-clear-on (now (words .entry)) counter (now (out .entry))) ⌝ }
+{
+    let number = sending::refusal(words, counter);
+    if number != 0 {
+        return beside(0, sending::refused(number));
+    }
+    let r = words::cards_of(words);
+    let q = words::index(counter);
+    let value = read::row_reading(words, r, q).value;
+    let sent = send_clear(words, r, q, out);
+    if sent.number != 0 {
+        return beside(0, sent);
+    }
+    beside(value, sent)
 }

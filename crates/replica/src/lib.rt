@@ -1,4 +1,4 @@
-// One card's replica of every counter, in the caller's words: open, read, count, clear and take.
+// One card's replica of every counter, in the caller's words: open, read, count, clear, read and clear, and take.
 pub mod clearing;
 pub mod counting;
 mod effect;

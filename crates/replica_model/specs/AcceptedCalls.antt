@@ -21,10 +21,10 @@ use Rattle.protocol.specs.ChecksLaws.{all-first, gives-passes}
 use Rattle.protocol.specs.AcceptanceLaws.{count-cong}
 use Rattle.wire.specs.Message.{message-at, increment-length, clear-length}
 use Rattle.replica_model.specs.Layout.{cards, counters, own-card, C-of, N-of, entry-of, layout}
-use Rattle.replica_model.specs.Calls.{right, row-well-formed, reading, read-on, count-on, clear-on, take-on, send-checks, holders, count-of, clear-of, words-after, making-checks}
+use Rattle.replica_model.specs.Calls.{right, row-well-formed, reading, read-on, count-on, clear-on, read-and-clear-on, take-on, send-checks, holders, count-of, clear-of, words-after, making-checks}
 use Rattle.replica_model.specs.ClaimTerms.{Right, Performed, OnlyMoves, Keeps, Isolates}
 use Rattle.replica_model.specs.RowLaws.{right-facts, right-from, row-facts, row-from}
-use Rattle.replica_model.specs.CallsLaws.{count-decided, clear-decided, take-decided}
+use Rattle.replica_model.specs.CallsLaws.{read-decided, count-decided, clear-decided, read-and-clear-decided, take-decided}
 use Rattle.replica_model.specs.WellFormedKept.{FittingEntries, Fitting}
 use Rattle.replica_model.specs.Performed.{performed, only-moves, right-kept, row-kept}
 use Rattle.replica_model.specs.Senders.{Sending, count-fits, clear-fits}
@@ -99,6 +99,15 @@ take-move b bytes h =
     let d = take-decided format-1 b bytes in
     let k = taking-facts b bytes (take-passes b bytes (d .exact 0 .0 h)) in
     rw (d .accepted h) (moved b (m .counter) (m .sender) (content m) (k .right) (content-counter m) (rw (content-counter m) at (k .counter)) (k .sender) (k .more) (k .fits))
+
+-- what a read gives just before an accepted read-and-clear
+pub read-before : (b : List ℕ) (q : ℕ) (out : List ℕ) → let done = read-and-clear-on b q out in
+    done .answer .number ≡ 0 → (read-on b q .number ≡ 0) × (done .answer .value ≡ read-on b q .value)
+read-before b q out h =
+    let d = read-and-clear-decided b q out in
+    let k = sent-facts b q out (clear-length (holders b q)) (d .exact 0 .0 h) in
+    let accepted : read-on b q .number ≡ 0 = read-decided b q .exact 0 .1 (right-from b (k .right), (lt-ltb q (counters b) (k .counter), (row-from b q (k .row), refl))) in
+    (accepted, rw (d .accepted h, read-decided b q .accepted accepted))
 
 -- ---- what every move keeps
 

@@ -2,7 +2,7 @@
 -- checks, in the specification's order, and a result: the first check that fails gives the number (`Checks` of protocol).
 use Prim.Native.Nat.{ℕ, _+_}
 use mathlib.Core.List.{List, [], _∷_, _++_}
-use mathlib.Core.Bool.{Bool, not, _&&_}
+use mathlib.Core.Bool.{Bool, not, cond, _&&_}
 use lib.ListN.{length}
 use lib.Dec.{leb, ltb, eqb}
 use Rattle.protocol.specs.Limits.{MAX, most-cards, most-counters, bad-replica, bad-row, bad-counter, exhausted, short-output, unreadable, bad-card, repeated, early, implausible}
@@ -17,6 +17,7 @@ use Rattle.replica_model.specs.Layout.{cards, counters, own-card, replic
 use Rattle.replica_model.specs.Format.{Received, Format, format-1}
 pub use Rattle.replica_model.specs.declared.Reading.{Reading}
 pub use Rattle.replica_model.specs.declared.Sent.{Sent}
+pub use Rattle.replica_model.specs.declared.Cleared.{Cleared}
 pub use Rattle.replica_model.specs.declared.Taken.{Taken}
 
 -- ---- what the checks ask
@@ -135,6 +136,26 @@ clear-of b q = clear-message (cards b) q (state b)
 
 unfoldable pub clear-on : List ℕ → ℕ → List ℕ → SendOutcome
 clear-on b q out = send-with format-1 b q out (clear-of b q)
+
+-- ---- read and clear in one call: "clears, and returns the value beside what clear returns"
+
+-- what the call answers, and what it leaves in the replica and in the output
+pub record ClearedOutcome : Type 0 where
+  pub answer : Cleared
+  pub words : List ℕ
+  pub out : List ℕ
+
+-- a value beside what a call that sends gives
+abbrev pub with-value : ℕ → SendOutcome → ClearedOutcome
+with-value value done = record {
+  answer = record { number = done .answer .number; value = value; sequence = done .answer .sequence; length = done .answer .length };
+  words = done .words;
+  out = done .out;
+}
+
+-- "The value is the one that read gives just before the clear."; a refusal is "its number with zeros"
+unfoldable pub read-and-clear-on : List ℕ → ℕ → List ℕ → ClearedOutcome
+read-and-clear-on b q out = let done = clear-on b q out in with-value (cond (eqb (done .answer .number) 0) (reading b q .value) 0) done
 
 -- ---- take: "1, 6, 3, 2, 7, 8, 9, 10"
 

@@ -1,8 +1,10 @@
 -- LAWS. Each call is a list of checks and a result, so it is decided by its list (`ChecksLaws` of protocol); and how long a clear's message is.
 use Prim.Native.Nat.{ℕ}
-use mathlib.Core.Path.{_≡_, refl}
+use mathlib.Core.Path.{_≡_, refl, ap}
+use mathlib.Core.Logic.{_≢_}
 use mathlib.Core.List.{List}
-use Rattle.protocol.specs.Checks.{Decided}
+use borrow.Author.Tests.{eq-eqb, ne-eqb}
+use Rattle.protocol.specs.Checks.{Check, Decided}
 use Rattle.protocol.specs.ChecksLaws.{decided}
 use Rattle.protocol.specs.Chassis.{Message, count-message, clear-message}
 use Rattle.protocol.specs.Store.{shown}
@@ -10,7 +12,7 @@ use Rattle.wire.specs.Message.{increment-length, clear-length}
 use Rattle.replica_model.specs.Layout.{cards, entry-of, fresh-words}
 use Rattle.replica_model.specs.Format.{Format, format-1, size-of}
 use Rattle.replica_model.specs.PresentLaws.{present-length}
-use Rattle.replica_model.specs.Calls.{open-checks, open-on, read-checks, no-reading, reading, read-on, send-checks, not-sent, sent-with, send-with, holders, count-of, count-on, clear-of, clear-on, take-checks, not-taken, taken-with, take-with}
+use Rattle.replica_model.specs.Calls.{open-checks, open-on, read-checks, no-reading, reading, read-on, send-checks, SendOutcome, not-sent, sent-with, send-with, holders, count-of, count-on, clear-of, clear-on, with-value, read-and-clear-on, take-checks, not-taken, taken-with, take-with}
 
 pub open-decided : (b : List ℕ) (r k own : ℕ)
     → Decided (λ o. o .number) (λ n. record { number = n; words = b }) (open-checks b r k own) (record { number = 0; words = fresh-words r k own }) (open-on b r k own)
@@ -44,6 +46,25 @@ pub clear-decided : (b : List ℕ) (q : ℕ) (out : List ℕ)
     → Decided (λ o. o .answer .number) (λ n. not-sent n b out) (send-checks b q out (clear-length (holders b q))) (sent-with format-1 b out (clear-of b q)) (clear-on b q out)
 unfolding clear-on
 clear-decided b q out = rw (← (clear-size b q)) (send-decided format-1 b q out (clear-of b q))
+
+-- a value beside a call that sends: v where it is accepted, 0 where it is refused
+pub value-decided : (v w : ℕ) (b out : List ℕ) (cs : List Check) (result done : SendOutcome)
+    → (done .answer .number ≡ 0 → w ≡ v) → (done .answer .number ≢ 0 → w ≡ 0)
+    → Decided (λ o. o .answer .number) (λ n. not-sent n b out) cs result done
+    → Decided (λ o. o .answer .number) (λ n. with-value 0 (not-sent n b out)) cs (with-value v result) (with-value w done)
+value-decided v w b out cs result done taken none d = record {
+  exact = d .exact;
+  refused = λ some. rw (none some) (ap (with-value 0) (d .refused some));
+  accepted = λ e. rw (taken e) (ap (with-value v) (d .accepted e));
+}
+
+pub read-and-clear-decided : (b : List ℕ) (q : ℕ) (out : List ℕ)
+    → Decided (λ o. o .answer .number) (λ n. with-value 0 (not-sent n b out)) (send-checks b q out (clear-length (holders b q)))
+    (with-value (reading b q .value) (sent-with format-1 b out (clear-of b q))) (read-and-clear-on b q out)
+unfolding read-and-clear-on
+read-and-clear-decided b q out =
+    value-decided (reading b q .value) _ b out _ _ (clear-on b q out)
+    (λ none. rw (eq-eqb (clear-on b q out .answer .number) 0 none)) (λ some. rw (ne-eqb (clear-on b q out .answer .number) 0 some)) (clear-decided b q out)
 
 pub take-decided : (F : Format) (b bytes : List ℕ)
     → Decided (λ o. o .answer .number) (λ n. not-taken n b) (take-checks F b bytes) (taken-with b (F .received bytes)) (take-with F b bytes)

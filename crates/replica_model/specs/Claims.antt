@@ -15,15 +15,15 @@ use Rattle.protocol.specs.Checks.{Decided}
 use Rattle.wire.specs.Message as form
 use Rattle.wire.specs.Message.{increment-message, message-at, message-bytes, over, increment-length, clear-length}
 use Rattle.replica_model.specs.Layout.{cards, counters, own-card, replica-length, N-of, entry-of, fresh-words}
-use Rattle.replica_model.specs.Calls.{right, row-well-formed, open-on, no-reading, reading, read-on, not-sent, count-on, clear-on, not-taken, take-on, open-checks, read-checks, take-checks, holders, count-of, clear-of, sent-with, taken-with, send-checks}
+use Rattle.replica_model.specs.Calls.{right, row-well-formed, open-on, no-reading, reading, read-on, not-sent, count-on, clear-on, with-value, read-and-clear-on, not-taken, take-on, open-checks, read-checks, take-checks, holders, count-of, clear-of, sent-with, taken-with, send-checks}
 use Rattle.replica_model.specs.ClaimTerms.{Right, RowOf, sent-as, Performed, OnlyMoves, Keeps, Isolates, Writable, Addressed, Sizes}
 use Rattle.replica_model.specs.RowLaws.{right-facts, right-from, row-facts, row-from}
 use Rattle.replica_model.specs.PresentLaws.{present-length}
-use Rattle.replica_model.specs.CallsLaws.{open-decided, read-decided, count-decided, clear-decided, take-decided}
+use Rattle.replica_model.specs.CallsLaws.{open-decided, read-decided, count-decided, clear-decided, read-and-clear-decided, take-decided}
 use Rattle.replica_model.specs.FreshReplica.{fresh-right, fresh-row, sizes-opened, fresh-read, fresh-count, fresh-clear, fresh-take}
 use Rattle.replica_model.specs.Senders.{count-writable, clear-writable}
 use Rattle.replica_model.specs.SequenceLaws.{again-refused, old-refused, early-refused}
-use Rattle.replica_model.specs.AcceptedCalls.{sending-from, count-move, clear-move, take-move, move-keeps, move-moves, move-isolates, unmoved-keeps, unmoved-isolates}
+use Rattle.replica_model.specs.AcceptedCalls.{sending-from, read-before, count-move, clear-move, take-move, move-keeps, move-moves, move-isolates, unmoved-keeps, unmoved-isolates}
 use Rattle.replica_model.specs.Format.{content, format-1}
 
 -- ---- WELL-FORMED, in plain numbers
@@ -207,6 +207,31 @@ take-isolates b bytes =
     by-place (take-on b bytes .answer .number) 0
     (λ h. move-isolates b _ _ _ _ (take-move b bytes h))
     (λ d. rw (take-decided format-1 b bytes .refused d) (unmoved-isolates b (message-at bytes .counter)))
+
+-- ---- READ AND CLEAR IN ONE CALL
+
+-- All but its value is clear's, word for word and byte for byte: so every claim on clear is one on read-and-clear.
+pub read-and-clear-is-clear : (b : List ℕ) (q : ℕ) (out : List ℕ)
+    → let done = read-and-clear-on b q out in done ≡ with-value (done .answer .value) (clear-on b q out)
+unfolding read-and-clear-on
+read-and-clear-is-clear b q out = refl
+
+-- Accepted, it answers the value that a read gives just before, and that read is accepted. Refused, it answers 0.
+pub read-and-clear-value : (b : List ℕ) (q : ℕ) (out : List ℕ)
+    → let done = read-and-clear-on b q out in
+    (done .answer .number ≡ 0 → (read-on b q .number ≡ 0) × (done .answer .value ≡ read-on b q .value)) × (done .answer .number ≢ 0 → done .answer .value ≡ 0)
+read-and-clear-value b q out = (read-before b q out, λ some. rw (read-and-clear-decided b q out .refused some))
+
+-- Read-and-clear gives 1, 3, 2, 4, 5 in that order, or sends Algorithm 1's clear and answers the counter's value, and is exact.
+pub read-and-clear-exact : (b : List ℕ) (q : ℕ) (out : List ℕ)
+    → Decided (λ o. o .answer .number) (λ n. with-value 0 (not-sent n b out)) (send-checks b q out (clear-length (holders b q)))
+    (with-value (reading b q .value) (sent-with format-1 b out (clear-of b q))) (read-and-clear-on b q out)
+read-and-clear-exact = read-and-clear-decided
+
+-- Whatever read-and-clear on counter q answers, every other row keeps its words, and read its whole answer for every other counter whose row was well-formed.
+pub read-and-clear-isolates : (b : List ℕ) (q : ℕ) (out : List ℕ) → Isolates b q (read-and-clear-on b q out .words)
+unfolding read-and-clear-on
+read-and-clear-isolates = clear-isolates
 
 -- ---- ORDER AND REPEATS
 

@@ -15,7 +15,7 @@ use Rattle.wire.specs.Number.{number-at, bytes-of}
 use Rattle.wire.specs.Message as form
 use Rattle.wire.specs.Message.{header-bytes, increment-bytes, entry-bytes, entries-bytes, clear-bytes, message-bytes, header-in-range, increment-in-range, clear-in-range, entry-in-range, entries-in-range, unused, in-range, increment-message, entries-at, called-length, message-at, reads}
 use Rattle.replica_model.specs.Layout.{replica-length, C-of, N-of, entry-of, fresh-words}
-use Rattle.replica_model.specs.Calls.{replica-fits, words-after, send-with, take-with, sizes-in-range, right, row-well-formed, open-on, reading, read-on, count-on, clear-on, take-on}
+use Rattle.replica_model.specs.Calls.{replica-fits, words-after, send-with, take-with, sizes-in-range, right, row-well-formed, open-on, reading, read-on, count-on, clear-on, read-and-clear-on, take-on}
 use Rattle.replica_model.specs.Format.{content}
 
 room : ℕ → List ℕ
@@ -70,9 +70,19 @@ count-clear-count =
     let e = entry-of 2 d 0 0 in
     eqb (e .p) 2 && eqb (e .n) 1 && eqb (e .c) 2 && eqb (read-on d 0 .value) 1
 
+-- Two counts, then read-and-clear: one holder, so 48 bytes; into 47 it answers 5 and no value. Right after it the value is 0.
+count-count-read-and-clear : Bool
+count-count-read-and-clear =
+    let b = count-on (fresh-words 2 2 0) 0 (room 36) .words in
+    let c = count-on b 0 (room 36) .words in
+    let done = read-and-clear-on c 0 (room 48) in
+    let short = read-and-clear-on c 0 (room 47) in
+    eqb (done .answer .number) 0 && eqb (done .answer .value) 2 && eqb (done .answer .sequence) 3 && eqb (done .answer .length) 48 && eqb (read-on (done .words) 0 .value) 0
+    && eqb (short .answer .number) 5 && eqb (short .answer .value) 0
+
 pub all-examples : Bool
-all-examples = clear-on-fresh && sequences && output-lengths && counter-limits && third-count && count-clear-count
+all-examples = clear-on-fresh && sequences && output-lengths && counter-limits && third-count && count-clear-count && count-count-read-and-clear
 
 pub examples-hold : all-examples ≡ true
-unfolding all-examples clear-on-fresh sequences output-lengths counter-limits third-count count-clear-count answer-to room sizes-in-range right replica-fits all-below count-below entry-well-formed card-well-formed row-well-formed tables-well-formed open-on reading read-on send-with words-after count-on clear-on content all-entries cards-known increment-implausible entry-plausible plausible take-with fresh-words header-bytes increment-bytes entry-bytes entries-bytes clear-bytes message-bytes header-in-range increment-in-range clear-in-range entry-in-range entries-in-range unused in-range increment-message entries-at called-length message-at reads number-at bytes-of cleared-words taken-words shown count-message present-entries clear-message read-value read-holders put sum bits incremented cleared form.clear-message
+unfolding all-examples clear-on-fresh sequences output-lengths counter-limits third-count count-clear-count count-count-read-and-clear answer-to room sizes-in-range right replica-fits all-below count-below entry-well-formed card-well-formed row-well-formed tables-well-formed open-on reading read-on send-with words-after count-on clear-on read-and-clear-on content all-entries cards-known increment-implausible entry-plausible plausible take-with fresh-words header-bytes increment-bytes entry-bytes entries-bytes clear-bytes message-bytes header-in-range increment-in-range clear-in-range entry-in-range entries-in-range unused in-range increment-message entries-at called-length message-at reads number-at bytes-of cleared-words taken-words shown count-message present-entries clear-message read-value read-holders put sum bits incremented cleared form.clear-message
 examples-hold = refl

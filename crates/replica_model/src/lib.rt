@@ -18,6 +18,15 @@ pub struct Sent {
     pub length: u64,
 }
 
+// Number 0 with the value read just before the clear, the message's sequence and the length written; or the number of the refusal with zeros.
+#[repr(C)]
+pub struct Cleared {
+    pub number: u64,
+    pub value: u64,
+    pub sequence: u64,
+    pub length: u64,
+}
+
 // Number 0 with the sequence of the message taken; or the number of the refusal with zero.
 #[repr(C)]
 pub struct Taken {

@@ -2,6 +2,7 @@
 mod records;
 
 use chassis_model::Span;
+use replica_model::Cleared;
 use replica_model::Reading;
 use replica_model::Sent;
 use replica_model::Taken;
@@ -9,7 +10,7 @@ use wire::Message;
 use wire::Written;
 ghost use mathlib.Core.Path.{_≡_};
 ghost use Rattle.wire.specs.Message.{read-message, WriteOutcome, write-message};
-ghost use Rattle.replica_model.specs.Calls.{OpenOutcome, open-on, read-on, SendOutcome, count-on, clear-on, TakeOutcome, take-on};
+ghost use Rattle.replica_model.specs.Calls.{OpenOutcome, open-on, read-on, SendOutcome, count-on, clear-on, ClearedOutcome, read-and-clear-on, TakeOutcome, take-on};
 ghost use Rattle.chassis_model.specs.Log.{waiting-span};
 ghost use Rattle.chassis_model.specs.Run.{RunOutcome, run-bytes-on};
 
@@ -43,6 +44,18 @@ pub extern "C" fn yelansub_clear(words: &mut [u64], counter: u64, out: &mut [u8]
     ensures { λ a. ⌜ _≡_ {A = SendOutcome} (record { answer = a; words = now (words .exit); out = now (out .exit) }) (clear-on (now (words .entry)) counter (now (out .entry))) ⌝ }
 {
     replica::clearing::clear(words, counter, out)
+}
+
+// Ruled out: a clear without the value (must-fail/cleared_without_value), and an own replica that is not cleared.
+#[no_mangle]
+pub extern "C" fn yelansub_read_and_clear(
+    words: &mut [u64],
+    counter: u64,
+    out: &mut [u8],
+) -> Cleared
+    ensures { λ a. ⌜ _≡_ {A = ClearedOutcome} (record { answer = a; words = now (words .exit); out = now (out .exit) }) (read-and-clear-on (now (words .entry)) counter (now (out .entry))) ⌝ }
+{
+    replica::clearing::read_and_clear(words, counter, out)
 }
 
 // Ruled out: a take that keeps the replica, and a number of its own.

@@ -59,7 +59,7 @@ fn answer_record<'a>(
 
 // Runs the steps from fresh replicas: the number, and of each step its answer. It is the run over bytes in all but the form of its steps
 // (claim `same-run`). The proof is by hand.
-// Ruled out: answers that are not one for each step (must-fail/answers_not_counted), and a declined run that changes the words.
+// Ruled out: answers that are not two for each step (must-fail/answers_not_counted), and a declined run that changes the words.
 #[no_mangle]
 pub extern "C" fn yelansub_run_records(
     cards: u64,

@@ -10,6 +10,9 @@ use yelansub_reference::listing::{listing, LONGEST_INPUT, SIZES_BYTES};
 use yelansub_reference::listing::{MOST_CARDS, MOST_COUNTERS, MOST_STEPS};
 use yelansub_reference::random::Random;
 
+/// Next to the kinds of step that there are.
+const NO_KINDS: [u32; 2] = [0, limits::STEP_KINDS.len() as u32 + 1];
+
 fn main() {
     let mut arguments = std::env::args().skip(1);
     let program = arguments.next().expect("the listing program");
@@ -77,10 +80,12 @@ fn input(random: &mut Random) -> Vec<u8> {
 fn step(random: &mut Random, r: u32, k: u32) -> Step {
     let odd = u64::from(random.percent(4));
     let card = random.below(u64::from(r) + odd) as u32;
-    match random.below(8 + odd) {
-        0..=2 => Step::count(card, random.below(u64::from(k) + odd) as u32),
-        3 => Step::clear(card, random.below(u64::from(k) + odd) as u32),
-        8 => Step { kind: random.word() as u32, first: card, second: 0 },
+    match random.below(16 + 2 * odd) {
+        0..=5 => Step::count(card, random.below(u64::from(k) + odd) as u32),
+        6 => Step::clear(card, random.below(u64::from(k) + odd) as u32),
+        7 => Step::read_and_clear(card, random.below(u64::from(k) + odd) as u32),
+        16 => Step { kind: random.word() as u32, first: card, second: 0 },
+        17 => Step { kind: random.pick(&NO_KINDS), first: card, second: 0 },
         _ => Step::deliver(card, random.below(r.into()) as u32),
     }
 }

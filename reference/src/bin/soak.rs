@@ -1,11 +1,15 @@
 //! Random calls, messages, logs and runs against the library for as long as asked, then deeper
 //! exhaustive lists: `cargo run --release --offline --bin soak -- [MINUTES] [FIRST_SEED]`.
-//! One series alone, as long as asked: `-- network [CALLS] [SEED]`, `-- alone [LISTS] [SEED]`.
+//! One series alone, as long as asked: `-- network [CALLS] [SEED]`, `-- alone [LISTS] [SEED]`,
+//! `-- total [LISTS] [SEED]`.
 //! Each round prints its seed; a difference panics with seed and case.
 
 use std::time::{Duration, Instant};
 
-use yelansub_reference::differential::{alone, calls, logs, messages, network, runs, Tally};
+use yelansub_reference::differential::{alone, calls, logs, messages, network, runs, total, Tally};
+
+/// Calls of histories for each list, which take about as long.
+const CALLS_A_LIST: u64 = 10;
 
 fn main() {
     let arguments: Vec<String> = std::env::args().skip(1).collect();
@@ -24,6 +28,12 @@ fn main() {
             let tally = alone::random_lists(seed, lists, 100);
             println!("{lists} lists from seed {seed}\n{tally}");
             alone::require_all(&tally, lists);
+        }
+        Some("total") => {
+            let (lists, seed) = (number(1, 100_000), number(2, 1));
+            println!("{lists} lists and {} calls from seed {seed}", CALLS_A_LIST * lists);
+            report(total::random_lists(seed, lists, 100), |t| total::require_all(t, lists));
+            report(total::histories(seed, CALLS_A_LIST * lists), total::require_histories);
         }
         _ => every_series(number(0, 10), number(1, 1_000_000)),
     }
@@ -46,6 +56,8 @@ fn every_series(minutes: u64, first: u64) {
         report(runs::random_runs(seed, 20, 5_000), |_| {});
         report(network::histories(seed, 200_000), network::require_all);
         report(alone::random_lists(seed, 10_000, 100), |t| alone::require_all(t, 10_000));
+        report(total::random_lists(seed, 10_000, 100), |t| total::require_all(t, 10_000));
+        report(total::histories(seed, 100_000), total::require_histories);
         if Instant::now() > until {
             break;
         }

@@ -1,8 +1,8 @@
-//! Whole isolation of a counter: its own steps of a list, run alone, are all accepted and leave
-//! every card's read of it as the whole list does.
+//! Whole isolation of a counter: its own steps of a list, run alone, are all accepted with the same
+//! values, and leave every card's read of it as the whole list does.
 
 use super::{generate, runs, Place, Tally};
-use crate::chassis::{Buffers, Step};
+use crate::chassis::{Answer, Buffers, Step};
 use crate::library::{self, Reading};
 use crate::limits::*;
 use crate::message::{self, Body, Message};
@@ -36,6 +36,7 @@ pub fn random_lists(seed: u64, lists: u64, longest: u64) -> Tally {
 pub fn require_all(tally: &Tally, lists: u64) {
     tally.require("step", runs::STEP);
     tally.require("sublist", &[EMPTY, SOME, MIXED]);
+    tally.require("value", &[0, 1]);
     assert!(tally.times("sublist", MIXED) > lists / 4, "few mixed lists");
     // Messages that are others alone, since p counts the increments of all counters.
     tally.require("bytes", &[0, 1]);
@@ -54,7 +55,7 @@ pub struct List {
 
 /// What the library's run leaves.
 pub struct After {
-    pub answers: Vec<u64>,
+    pub answers: Vec<Answer>,
     words: Vec<u64>,
     logs: Vec<u8>,
 }
@@ -72,12 +73,19 @@ impl List {
     }
 
     fn run_on(&self, mut words: Vec<u64>, mut logs: Vec<u8>) -> After {
-        let mut answers = vec![u64::MAX; self.steps.len()];
+        let mut answers = vec![[u64::MAX; ANSWER_WORDS]; self.steps.len()];
         let steps: Vec<u8> = self.steps.iter().flat_map(|step| step.to_bytes()).collect();
         let (r, k, log_bytes) = (self.cards as u64, self.counters as u64, self.log_bytes as u64);
-        let lent = Buffers { words: &mut words, logs: &mut logs, answers: &mut answers };
+        let flat = answers.as_flattened_mut();
+        let lent = Buffers { words: &mut words, logs: &mut logs, answers: flat };
         assert_eq!(library::run(r, k, log_bytes, &steps, lent), OK);
         After { answers, words, logs }
+    }
+
+    /// A card's words.
+    pub fn replica<'a>(&self, after: &'a After, card: usize) -> &'a [u64] {
+        let each = replica_words(self.cards, self.counters);
+        &after.words[card * each..][..each]
     }
 
     /// Every card's read of the counter.
@@ -91,8 +99,8 @@ impl List {
     /// The messages that each card has made, from its log's bytes.
     fn messages(&self, after: &After) -> Vec<Vec<Message>> {
         let mut made = vec![0; self.cards];
-        for (step, answer) in self.steps.iter().zip(&after.answers) {
-            if *answer == OK && step.kind != STEP_DELIVER {
+        for (step, [number, _]) in self.steps.iter().zip(&after.answers) {
+            if *number == OK && step.kind != STEP_DELIVER {
                 made[step.first as usize] += 1;
             }
         }
@@ -114,10 +122,10 @@ impl List {
         let messages = self.messages(after);
         let mut received = vec![vec![0; self.cards]; self.cards];
         let mut belongs = Vec::new();
-        for (step, answer) in self.steps.iter().zip(&after.answers) {
+        for (step, [number, _]) in self.steps.iter().zip(&after.answers) {
             let (first, second) = (step.first as usize, step.second as usize);
             belongs.push(match step.kind {
-                _ if *answer != OK => None,
+                _ if *number != OK => None,
                 STEP_DELIVER => {
                     let at = &mut received[first][second];
                     *at += 1;
@@ -129,23 +137,26 @@ impl List {
         belongs
     }
 
-    /// The counter's own steps, told the answers of the whole list.
-    pub fn own(&self, after: &After, counter: usize) -> List {
-        let belongs = self.belongs(after);
-        let own = self.steps.iter().zip(belongs).filter(|(_, of)| *of == Some(counter));
-        self.of(own.map(|(step, _)| *step).collect())
+    /// The counter's own steps, told the answers of the whole list, and those that are theirs.
+    pub fn own(&self, after: &After, counter: usize) -> (List, Vec<Answer>) {
+        let answered = self.steps.iter().copied().zip(after.answers.iter().copied());
+        let own = answered.zip(self.belongs(after)).filter(|(_, of)| *of == Some(counter));
+        let (steps, answers) = own.map(|(answered, _)| answered).unzip();
+        (self.of(steps), answers)
     }
 
     /// Every counter alone, and every single step.
     pub fn check(&self, random: &mut Random, place: Place, tally: &mut Tally) {
         let whole = self.run(random);
-        whole.answers.iter().for_each(|answer| tally.note("step", *answer));
+        whole.answers.iter().for_each(|[number, _]| tally.note("step", *number));
         self.other_steps_leave_the_reads(&whole, place);
         for counter in 0..self.counters {
             let place = || format!("counter {counter} alone: {}, {self:?}", place());
-            let own = self.own(&whole, counter);
+            let (own, answers) = self.own(&whole, counter);
             let alone = own.run(random);
-            assert_eq!(alone.answers, vec![OK; own.steps.len()], "{}", place());
+            assert!(alone.answers.iter().all(|[number, _]| *number == OK), "{}", place());
+            assert_eq!(alone.answers, answers, "{}", place());
+            answers.iter().for_each(|[_, value]| tally.note("value", (*value).min(1)));
             let (reads, due) = (own.reads(&alone, counter), self.reads(&whole, counter));
             assert_eq!(reads, due, "{}", place());
             tally.note("sublist", self.worth(&whole, &own, counter));
@@ -162,7 +173,8 @@ impl List {
         own.map(|message| message.body).collect()
     }
 
-    /// Every shorter list: a step that is not the counter's leaves every card's read of it.
+    /// Every shorter list: a step that is not the counter's leaves every card's read of it, and a
+    /// value that a step answers was that card's read before it.
     fn other_steps_leave_the_reads(&self, whole: &After, place: Place) {
         let belongs = self.belongs(whole);
         let mut reads: Option<Vec<Vec<Reading>>> = None;
@@ -172,6 +184,14 @@ impl List {
             assert_eq!(after.answers, whole.answers[..len], "{}", place());
             let now: Vec<_> = (0..self.counters).map(|q| part.reads(&after, q)).collect();
             if let Some(before) = reads {
+                let (step, [number, value]) = (self.steps[len - 1], whole.answers[len - 1]);
+                let due = match step.kind {
+                    STEP_READ_AND_CLEAR if number == OK => {
+                        before[step.second as usize][step.first as usize].value
+                    }
+                    _ => 0,
+                };
+                assert_eq!(value, due, "step {len}: {}, {part:?}", place());
                 for counter in (0..self.counters).filter(|q| belongs[len - 1] != Some(*q)) {
                     let place = || format!("step {len}, counter {counter}: {}", place());
                     assert_eq!(before[counter], now[counter], "{}, {part:?}", place());
@@ -185,8 +205,8 @@ impl List {
         if own.steps.is_empty() {
             return EMPTY;
         }
-        let declined = whole.answers.iter().any(|answer| *answer != OK);
-        let cleared = own.steps.iter().any(|step| step.kind == STEP_CLEAR);
+        let declined = whole.answers.iter().any(|[number, _]| *number != OK);
+        let cleared = own.steps.iter().any(|step| step.clears());
         let mut others = vec![vec![false; self.cards]; self.cards];
         let mut crossed = false;
         for (step, of) in self.steps.iter().zip(self.belongs(whole)) {
@@ -207,14 +227,15 @@ impl List {
     /// one finds room in a list without the other counters' steps: 1.
     fn full_log(&self, whole: &After, counter: usize, random: &mut Random, tally: &mut Tally) {
         let belongs = self.belongs(whole);
-        let full =
-            |at: usize| whole.answers[at] == LOG_FULL && self.steps[at].second as usize == counter;
+        let full = |at: usize| {
+            whole.answers[at][0] == LOG_FULL && self.steps[at].second as usize == counter
+        };
         let asked = (0..self.steps.len()).filter(|at| belongs[*at] == Some(counter) || full(*at));
         let asked: Vec<usize> = asked.collect();
         if asked.iter().any(|at| full(*at)) {
             let after = self.of(asked.iter().map(|at| self.steps[*at]).collect()).run(random);
             let mut both = asked.iter().zip(after.answers);
-            let room = both.any(|(at, answer)| full(*at) && answer == OK);
+            let room = both.any(|(at, [number, _])| full(*at) && number == OK);
             tally.note("full", u64::from(room));
         }
     }

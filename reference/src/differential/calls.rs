@@ -1,6 +1,7 @@
 //! Chains of random calls on one replica, good and damaged.
 
-use super::{generate, number, reading, sent, taken, Guarded, Tally};
+use super::{cleared, generate, number, reading, taken, unread, Guarded, Tally};
+use super::{Sending, CLEAR, COUNT, READ_AND_CLEAR, SENDING};
 use crate::library;
 use crate::limits::*;
 use crate::random::Random;
@@ -43,13 +44,11 @@ pub fn random_calls(seed: u64, cases: u64) -> Tally {
 pub fn require_all(tally: &Tally) {
     tally.require("open", OPEN);
     tally.require("read", READ);
-    tally.require("count", SEND);
-    tally.require("clear", SEND);
+    for call in SENDING {
+        tally.require(call.name, SEND);
+    }
     tally.require("take", TAKE);
 }
-
-/// Count or clear of the reference.
-pub(super) type Send = fn(&mut [u64], u64, &mut [u8]) -> Result<replica::Sent, u64>;
 
 /// One replica twice: the reference's and the library's.
 struct Pair {
@@ -62,11 +61,12 @@ struct Pair {
 impl Pair {
     fn call(&mut self, random: &mut Random, tally: &mut Tally) {
         let before = self.ours.clone();
-        let (call, number) = match random.below(20) {
+        let (call, number) = match random.below(22) {
             0 => self.open(random),
             1..=3 => self.read(random),
-            4..=7 => self.send(random, "count", replica::count, library::count),
-            8..=11 => self.send(random, "clear", replica::clear, library::clear),
+            4..=7 => self.send(random, &COUNT),
+            8..=10 => self.send(random, &CLEAR),
+            11..=13 => self.send(random, &READ_AND_CLEAR),
             _ => self.take(random),
         };
         let (seed, case) = (self.seed, self.case);
@@ -105,32 +105,32 @@ impl Pair {
         ("read", theirs.number)
     }
 
-    fn send(
-        &mut self,
-        random: &mut Random,
-        name: &'static str,
-        reference: Send,
-        library: fn(&mut [u64], u64, &mut [u8]) -> library::Sent,
-    ) -> (&'static str, u64) {
+    fn send(&mut self, random: &mut Random, call: &Sending) -> (&'static str, u64) {
         let counter = generate::counter(random, self.ours.get());
-        let room = self.room(random, counter, reference);
+        let room = self.room(random, counter, call);
         let content = random.bytes(room);
         let (mut our_out, mut their_out) = (Guarded::new(&content), Guarded::new(&content));
-        let ours = sent(reference(self.ours.get_mut(), counter, our_out.get_mut()));
-        let theirs = library(self.theirs.get_mut(), counter, their_out.get_mut());
-        self.agree(name, ours, theirs);
-        self.agree(name, &our_out, &their_out);
+        let in_turn = (call.kind == STEP_READ_AND_CLEAR)
+            .then(|| read_then_clear(self.theirs.clone(), counter, their_out.clone()));
+        let ours = cleared((call.ours)(self.ours.get_mut(), counter, our_out.get_mut()));
+        let theirs = (call.theirs)(self.theirs.get_mut(), counter, their_out.get_mut());
+        self.agree(call.name, ours, theirs);
+        self.agree(call.name, &our_out, &their_out);
+        if let Some((answer, words, out)) = in_turn {
+            self.agree("read, then clear", answer, theirs);
+            self.agree("read, then clear", (&words, &out), (&self.theirs, &their_out));
+        }
         let length = theirs.length as usize;
         self.agree("bytes past the message", &content[length..], &their_out.get()[length..]);
-        (name, theirs.number)
+        (call.name, theirs.number)
     }
 
     /// Output bytes: too few by one, exactly enough, or any number.
-    fn room(&self, random: &mut Random, counter: u64, call: Send) -> usize {
+    fn room(&self, random: &mut Random, counter: u64, call: &Sending) -> usize {
         if random.percent(40) {
             let mut words = self.ours.get().to_vec();
-            let needed = call(&mut words, counter, &mut [0; LONGEST_MESSAGE]);
-            let needed = needed.map_or(0, |sent| sent.length as usize);
+            let needed = (call.ours)(&mut words, counter, &mut [0; LONGEST_MESSAGE]);
+            let needed = needed.map_or(0, |cleared| cleared.sent.length as usize);
             return random.pick(&[needed, needed, needed.saturating_sub(1), needed + 1, 0]);
         }
         random.below(LONGEST_MESSAGE as u64 + 60) as usize
@@ -147,4 +147,18 @@ impl Pair {
         self.agree("take", ours, theirs);
         ("take", theirs.number)
     }
+}
+
+/// The library's two calls in place of the one: what it has to answer and leave.
+fn read_then_clear(
+    mut words: Guarded<u64>,
+    counter: u64,
+    mut out: Guarded<u8>,
+) -> (library::Cleared, Guarded<u64>, Guarded<u8>) {
+    let read = library::read(words.get(), counter);
+    let mut answer = unread(library::clear(words.get_mut(), counter, out.get_mut()));
+    if answer.number == OK {
+        answer.value = read.value;
+    }
+    (answer, words, out)
 }

@@ -56,9 +56,10 @@ fn count(random: &mut Random, limit: u64) -> u64 {
 pub fn good_step(random: &mut Random, cards: usize, counters: usize) -> Step {
     let card = random.below(cards as u64) as u32;
     let counter = random.below(counters as u64) as u32;
-    match random.below(8) {
-        0..=2 => Step::count(card, counter),
-        3 => Step::clear(card, counter),
+    match random.below(16) {
+        0..=5 => Step::count(card, counter),
+        6 => Step::clear(card, counter),
+        7 => Step::read_and_clear(card, counter),
         _ if cards == 1 => Step::count(card, counter),
         _ => {
             let sender = (card as usize + random.between(1, cards as u64 - 1) as usize) % cards;
@@ -74,7 +75,7 @@ fn reached(random: &mut Random, cards: usize, counters: usize) -> Vec<u64> {
     let log_bytes = 4096;
     let mut words = vec![0; cards * each];
     let mut logs = vec![0; cards * log_bytes];
-    let mut answers = vec![0; steps.len() / STEP_BYTES];
+    let mut answers = vec![0; ANSWER_WORDS * (steps.len() / STEP_BYTES)];
     let lent = Buffers { words: &mut words, logs: &mut logs, answers: &mut answers };
     chassis::run(cards as u64, counters as u64, log_bytes as u64, &steps, lent)
         .expect("right sizes");

@@ -8,12 +8,14 @@ pub mod logs;
 pub mod messages;
 pub mod network;
 pub mod runs;
+pub mod total;
 
 use std::collections::BTreeMap;
 use std::fmt;
 
+use crate::chassis::{Answer, Step};
 use crate::ledger::Ledger;
-use crate::limits::OK;
+use crate::limits::{OK, STEP_CLEAR, STEP_COUNT, STEP_READ_AND_CLEAR};
 use crate::{library, replica};
 
 /// The seed of a series: YELANSUB_SEED, or the usual one.
@@ -119,11 +121,55 @@ pub fn reading(answer: Result<replica::Reading, u64>) -> library::Reading {
     }
 }
 
-/// The reference's answer to count and clear in the library's shape.
-pub fn sent(answer: Result<replica::Sent, u64>) -> library::Sent {
+/// A call on words, a counter and an output.
+type Send<Answer> = fn(&mut [u64], u64, &mut [u8]) -> Answer;
+
+/// A call that makes a message, on both sides and as a step. One that reads no value gives 0.
+pub struct Sending {
+    pub name: &'static str,
+    pub kind: u32,
+    pub ours: Send<Result<replica::Cleared, u64>>,
+    pub theirs: Send<library::Cleared>,
+}
+
+pub const COUNT: Sending = Sending {
+    name: "count",
+    kind: STEP_COUNT,
+    ours: |words, counter, out| replica::count(words, counter, out).map(replica::Cleared::unread),
+    theirs: |words, counter, out| unread(library::count(words, counter, out)),
+};
+pub const CLEAR: Sending = Sending {
+    name: "clear",
+    kind: STEP_CLEAR,
+    ours: |words, counter, out| replica::clear(words, counter, out).map(replica::Cleared::unread),
+    theirs: |words, counter, out| unread(library::clear(words, counter, out)),
+};
+pub const READ_AND_CLEAR: Sending = Sending {
+    name: "read and clear",
+    kind: STEP_READ_AND_CLEAR,
+    ours: replica::read_and_clear,
+    theirs: library::read_and_clear,
+};
+pub const SENDING: [Sending; 3] = [COUNT, CLEAR, READ_AND_CLEAR];
+
+impl Sending {
+    pub fn step(&self, card: u32, counter: u32) -> Step {
+        Step { kind: self.kind, first: card, second: counter }
+    }
+}
+
+fn unread(sent: library::Sent) -> library::Cleared {
+    let library::Sent { number, sequence, length } = sent;
+    library::Cleared { number, value: 0, sequence, length }
+}
+
+/// The reference's answer to a call that makes a message, in the library's shape.
+pub fn cleared(answer: Result<replica::Cleared, u64>) -> library::Cleared {
     match answer {
-        Ok(sent) => library::Sent { number: OK, sequence: sent.sequence, length: sent.length },
-        Err(number) => library::Sent { number, ..Default::default() },
+        Ok(replica::Cleared { value, sent: replica::Sent { sequence, length } }) => {
+            library::Cleared { number: OK, value, sequence, length }
+        }
+        Err(number) => library::Cleared { number, ..Default::default() },
     }
 }
 
@@ -133,6 +179,11 @@ pub fn taken(answer: Result<u64, u64>) -> library::Taken {
         Ok(sequence) => library::Taken { number: OK, sequence },
         Err(number) => library::Taken { number, sequence: 0 },
     }
+}
+
+/// A run's words of answer, step by step.
+fn answers(words: &[u64]) -> &[Answer] {
+    words.as_chunks().0
 }
 
 pub fn number(answer: Result<(), u64>) -> u64 {

@@ -9,8 +9,10 @@
 use std::fmt::Debug;
 use std::ops::Range;
 
-use super::{against_ledgers, calls, generate, sent, taken, Guarded, Tally};
-use crate::chassis::Step;
+use super::total::Collector;
+use super::{against_ledgers, cleared, generate, taken, Guarded, Tally};
+use super::{Sending, CLEAR, COUNT, READ_AND_CLEAR, SENDING};
+use crate::chassis::{Answer, Step};
 use crate::ledger::Ledger;
 use crate::library;
 use crate::limits::*;
@@ -21,11 +23,21 @@ use crate::replica;
 /// Histories until `calls` calls have been made. What the end of each adds, messages sent again
 /// and steps replayed, is not among them.
 pub fn histories(seed: u64, calls: u64) -> Tally {
+    histories_with(seed, calls, |_, _, _| None)
+}
+
+/// The same, each with the collector that its numbers of cards and counters give.
+pub(super) fn histories_with(
+    seed: u64,
+    calls: u64,
+    collector: fn(&mut Random, usize, usize) -> Option<Collector>,
+) -> Tally {
     let mut tally = Tally::default();
     let mut made = 0;
     for case in 0.. {
         let mut random = Random::case(seed, case);
         let mut history = History::new(&mut random, format!("seed {seed} case {case}"), &mut tally);
+        history.collector = collector(&mut random, history.cards, history.counters);
         history.go_on(&mut random);
         made += history.calls;
         history.end(&mut random);
@@ -38,9 +50,11 @@ pub fn histories(seed: u64, calls: u64) -> Tally {
 
 /// Panics unless the series met everything that can happen, and nothing else.
 pub fn require_all(tally: &Tally) {
-    // EXHAUSTED needs MAX messages of one card first.
-    tally.require("count", &[OK, BAD_COUNTER, SHORT_OUTPUT]);
-    tally.require("clear", &[OK, BAD_COUNTER, SHORT_OUTPUT]);
+    for call in SENDING {
+        // EXHAUSTED needs MAX messages of one card first.
+        tally.require(call.name, &[OK, BAD_COUNTER, SHORT_OUTPUT]);
+    }
+    tally.require("value", &[0, 1]);
     tally.require("next", &[OK]);
     tally.require("old", &[REPEATED]);
     tally.require("later", &[EARLY]);
@@ -96,36 +110,27 @@ impl Cards {
     }
 
     /// A step as a call, with room for any message; a delivery takes the message whose turn it is.
-    fn call(&mut self, step: Step) -> u64 {
+    fn call(&mut self, step: Step) -> Answer {
         let (card, second) = (step.first as usize, step.second as usize);
         let words = self.words[card].get_mut();
-        let mut out = [0; LONGEST_MESSAGE];
-        let sent = match step.kind {
-            STEP_COUNT => library::count(words, u64::from(step.second), &mut out),
-            STEP_CLEAR => library::clear(words, u64::from(step.second), &mut out),
-            _ => {
-                let bytes = &self.written[second][self.received[card][second]];
-                self.received[card][second] += 1;
-                return library::take(words, bytes).number;
-            }
+        let Some(call) = SENDING.iter().find(|call| call.kind == step.kind) else {
+            let bytes = &self.written[second][self.received[card][second]];
+            self.received[card][second] += 1;
+            return [library::take(words, bytes).number, 0];
         };
-        self.written[card].push(out[..sent.length as usize].to_vec());
-        sent.number
+        let mut out = [0; LONGEST_MESSAGE];
+        let answer = (call.theirs)(words, u64::from(step.second), &mut out);
+        self.written[card].push(out[..answer.length as usize].to_vec());
+        [answer.number, answer.value]
     }
 }
 
-/// Count or clear.
-struct Sending {
-    name: &'static str,
-    step: fn(u32, u32) -> Step,
-    ours: calls::Send,
-    theirs: fn(&mut [u64], u64, &mut [u8]) -> library::Sent,
+/// An accepted call as a step, with the counter that it belongs to and the value that it answered.
+struct Accepted {
+    step: Step,
+    counter: u32,
+    value: u64,
 }
-
-const COUNTS: Sending =
-    Sending { name: "count", step: Step::count, ours: replica::count, theirs: library::count };
-const CLEARS: Sending =
-    Sending { name: "clear", step: Step::clear, ours: replica::clear, theirs: library::clear };
 
 /// Which of the messages of a link, told how many the card has received and the sender written.
 type Which = fn(u64, u64) -> Range<u64>;
@@ -143,10 +148,11 @@ struct History<'a> {
     /// The reference's replicas.
     ours: Vec<Vec<u64>>,
     ledgers: Vec<Ledger>,
-    /// The accepted calls as steps, each with the counter that it belongs to.
-    accepted: Vec<(Step, u32)>,
+    accepted: Vec<Accepted>,
     /// What a card has answered with 0 or 8.
     known: Vec<(usize, Vec<u8>)>,
+    /// Where there is one, no clear that it forbids has room enough.
+    collector: Option<Collector>,
     calls: u64,
 }
 
@@ -174,6 +180,7 @@ impl History<'_> {
             ledgers: (0..counters).map(|counter| Ledger::new(cards, counter)).collect(),
             accepted: Vec::new(),
             known: Vec::new(),
+            collector: None,
             calls: 0,
         }
     }
@@ -187,8 +194,8 @@ impl History<'_> {
         let checks = if self.cards * self.counters > 64 { 1 } else { 8 };
         for _ in 0..turns {
             match random.below(100) {
-                x if x < sends && random.percent(clears) => self.send(random, &CLEARS),
-                x if x < sends => self.send(random, &COUNTS),
+                x if x < sends && random.percent(clears) => self.clear(random),
+                x if x < sends => self.send(random, &COUNT),
                 x if x < sends + takes => self.hand_over(random, NEXT, "next"),
                 _ => self.hand_over_other(random),
             }
@@ -206,6 +213,7 @@ impl History<'_> {
         self.resend_all(random);
         self.check_reads();
         self.clear_all_heard(random);
+        self.check_total();
         for (card, bytes) in std::mem::take(&mut self.known) {
             self.take(card, &bytes, "again");
         }
@@ -223,12 +231,37 @@ impl History<'_> {
         random.below(self.cards as u64) as usize
     }
 
-    // ---- count and clear
+    // ---- count, clear, and read and clear
 
     fn send(&mut self, random: &mut Random, call: &Sending) {
         let card = self.any_card(random);
         let counter = generate::counter(random, &self.ours[card]);
-        let room = room(random, self.size(call, card, counter));
+        self.send_with_any_room(random, call, card, counter);
+    }
+
+    fn clear(&mut self, random: &mut Random) {
+        match self.collector {
+            Some(Collector { card, counter }) if random.percent(50) => {
+                self.send_with_any_room(random, &READ_AND_CLEAR, card, counter as u64)
+            }
+            _ => {
+                let call = random.pick(&[&CLEAR, &READ_AND_CLEAR]);
+                self.send(random, call)
+            }
+        }
+    }
+
+    fn send_with_any_room(
+        &mut self,
+        random: &mut Random,
+        call: &Sending,
+        card: usize,
+        counter: u64,
+    ) {
+        let size = self.size(call, card, counter);
+        let step = call.step(card as u32, counter as u32);
+        let forbidden = self.collector.is_some_and(|collector| collector.forbids(step));
+        let room = if forbidden { random.below(size as u64) as usize } else { room(random, size) };
         self.send_from(call, card, counter, &random.bytes(room));
     }
 
@@ -239,27 +272,30 @@ impl History<'_> {
         let (mut out, mut our_out) = (Guarded::new(content), content.to_vec());
         let theirs = (call.theirs)(self.theirs.words[card].get_mut(), counter, out.get_mut());
         let ours = (call.ours)(&mut self.ours[card], counter, &mut our_out);
-        let due = match counter < self.counters as u64 {
-            false => BAD_COUNTER,
-            true if content.len() < size => SHORT_OUTPUT,
-            true => OK,
+        let due = match self.ledgers.get(counter as usize) {
+            None => [BAD_COUNTER, 0],
+            Some(_) if content.len() < size => [SHORT_OUTPUT, 0],
+            Some(ledger) if call.kind == STEP_READ_AND_CLEAR => [OK, ledger.value(card)],
+            Some(_) => [OK, 0],
         };
-        self.agree(call.name, theirs.number, due);
-        self.agree(call.name, theirs, sent(ours));
+        self.agree(call.name, [theirs.number, theirs.value], due);
+        self.agree(call.name, theirs, cleared(ours));
         self.agree(call.name, &out, &Guarded::new(&our_out));
         self.called(call.name, theirs.number, card, before);
         let length = theirs.length as usize;
         self.agree("bytes past the message", &out.get()[length..], &content[length..]);
         if theirs.number == OK {
             self.agree(call.name, length, size);
-            self.wrote(call, card, counter as u32, &out.get()[..length]);
+            let step = call.step(card as u32, counter as u32);
+            self.wrote(step, &out.get()[..length]);
+            self.accept(Accepted { step, counter: step.second, value: theirs.value });
         }
     }
 
     /// A clear has an entry for each holding card of the ledger.
     fn size(&self, call: &Sending, card: usize, counter: u64) -> usize {
         match self.ledgers.get(counter as usize) {
-            Some(ledger) if call.name == CLEARS.name => {
+            Some(ledger) if call.kind != STEP_COUNT => {
                 clear_bytes(ledger.holders(card).count_ones() as usize)
             }
             _ => INCREMENT_BYTES,
@@ -267,31 +303,33 @@ impl History<'_> {
     }
 
     /// The card has written a message: it reads, names the card, and has the next number.
-    fn wrote(&mut self, call: &Sending, card: usize, counter: u32, bytes: &[u8]) {
+    fn wrote(&mut self, step: Step, bytes: &[u8]) {
         let message = message::read(bytes).expect("a written message reads");
-        let sequence = self.theirs.written[card].len() as u64 + 1;
-        let header = (message.sender as usize, message.sequence, message.counter);
-        self.agree(call.name, header, (card, sequence, counter));
-        let step = (call.step)(card as u32, counter);
+        let written = &self.theirs.written[step.first as usize];
+        let header = (message.sender, message.sequence, message.counter);
+        let due = (step.first, written.len() as u64 + 1, step.second);
+        self.agree("header", header, due);
         match message.body {
             Body::Increment { start: false, .. } => self.tally.note("start", NO_START),
-            Body::Increment { .. } if self.accepted.contains(&(step, counter)) => {
+            Body::Increment { .. } if self.accepted.iter().any(|call| call.step == step) => {
                 self.tally.note("start", NEW_START)
             }
             Body::Increment { .. } => self.tally.note("start", FIRST_START),
             Body::Clear(entries) => self.tally.note("entries", entries.as_slice().len() as u64),
         }
-        self.theirs.written[card].push(bytes.to_vec());
-        self.accept(step, counter);
+        self.theirs.written[step.first as usize].push(bytes.to_vec());
     }
 
-    fn accept(&mut self, step: Step, counter: u32) {
-        self.accepted.push((step, counter));
+    fn accept(&mut self, call: Accepted) {
         for at in 0..self.counters {
-            if let Err(trouble) = self.ledgers[at].feed(step, true) {
+            if let Err(trouble) = self.ledgers[at].feed(call.step, true) {
                 panic!("{trouble}: {}", self.place());
             }
         }
+        if call.step.kind == STEP_READ_AND_CLEAR {
+            self.tally.note("value", call.value.min(1));
+        }
+        self.accepted.push(call);
     }
 
     /// After any call: a refused one has left the words, any other those of the reference.
@@ -332,7 +370,8 @@ impl History<'_> {
         self.called(what, theirs.number, card, Guarded::new(&before));
         if let (OK, Some(message)) = (theirs.number, written) {
             self.theirs.received[card][message.sender as usize] += 1;
-            self.accept(Step::deliver(card as u32, message.sender), message.counter);
+            let step = Step::deliver(card as u32, message.sender);
+            self.accept(Accepted { step, counter: message.counter, value: 0 });
         }
         if theirs.number == OK || theirs.number == REPEATED {
             self.known.push((card, bytes.to_vec()));
@@ -482,13 +521,24 @@ impl History<'_> {
                 self.tally.note(name, read.holder_count);
             }
         }
+        self.check_total();
+    }
+
+    /// The values that the collector answered and its read now are what it has received.
+    fn check_total(&mut self) {
+        if let Some(collector) = self.collector {
+            let accepted = self.accepted.iter().map(|call| (call.step, call.value));
+            let words = self.theirs.words[collector.card].get();
+            let total = collector.check(accepted, words, &|| self.place());
+            total.expect("only what is allowed").note(self.tally);
+        }
     }
 
     /// "Only accepted steps count": by themselves they leave the same words and messages.
     fn accepted_steps_alone(&self, random: &mut Random) {
         let mut fresh = Cards::open(random, self.cards, self.counters);
-        for (step, _) in &self.accepted {
-            self.agree("an accepted step alone", fresh.call(*step), OK);
+        for call in &self.accepted {
+            self.agree("an accepted step alone", fresh.call(call.step), [OK, call.value]);
         }
         self.agree("words of the accepted steps", &fresh.words, &self.theirs.words);
         self.agree("messages of the accepted steps", &fresh.written, &self.theirs.written);
@@ -498,8 +548,8 @@ impl History<'_> {
     fn one_counter_alone(&self, random: &mut Random) {
         let counter = random.below(self.counters as u64);
         let mut fresh = Cards::open(random, self.cards, self.counters);
-        for (step, _) in self.accepted.iter().filter(|step| u64::from(step.1) == counter) {
-            self.agree("a step of one counter alone", fresh.call(*step), OK);
+        for call in self.accepted.iter().filter(|call| u64::from(call.counter) == counter) {
+            self.agree("a step of one counter alone", fresh.call(call.step), [OK, call.value]);
         }
         for (alone, words) in fresh.words.iter().zip(&self.theirs.words) {
             let (alone, read) =
@@ -542,13 +592,16 @@ impl History<'_> {
     /// is quiet everywhere.
     fn clear_all_heard(&mut self, random: &mut Random) {
         let counter = random.below(self.counters as u64);
+        let any = (random.pick(&[&CLEAR, &READ_AND_CLEAR]), self.any_card(random), counter);
+        let collecting = |by: Collector| (&READ_AND_CLEAR, by.card, by.counter as u64);
+        let (clear, clearing, counter) = self.collector.map_or(any, collecting);
         let counting = random.pick(&[0, 50, 100, 100]);
         for card in 0..self.cards {
             if random.percent(counting) {
-                self.send_heard(&COUNTS, card, counter);
+                self.send_heard(&COUNT, card, counter);
             }
         }
-        self.send_heard(&CLEARS, self.any_card(random), counter);
+        self.send_heard(clear, clearing, counter);
         for words in &self.theirs.words {
             let read = library::read(words.get(), counter);
             self.agree("a read after all was cleared", read, library::Reading::default());

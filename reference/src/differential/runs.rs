@@ -1,13 +1,14 @@
 //! Runs: random lists and sizes, and every list of a small chassis to a depth, against the
 //! reference and against the ledger of every counter.
 
-use super::{against_ledgers, generate, number, Guarded, Place, Tally};
-use crate::chassis::{self, Buffers, Step};
+use super::total::{accepted, Collector};
+use super::{against_ledgers, answers, generate, number, Guarded, Place, Tally};
+use crate::chassis::{self, Answer, Buffers, Step};
 use crate::ledger::Ledger;
 use crate::library;
 use crate::limits::*;
 use crate::random::Random;
-use crate::replica::received_from;
+use crate::replica::{self, received_from};
 
 pub const RUN: &[u64] = &[OK, BAD_SIZES];
 /// `EXHAUSTED` needs `MAX` messages of one card first.
@@ -53,6 +54,17 @@ impl Lent {
     fn same_buffers(&self, other: &Lent) -> bool {
         self.words == other.words && self.logs == other.logs && self.answers == other.answers
     }
+
+    /// What a read of the counter on the card gives after the first `len` steps, by the reference.
+    fn value_after(&self, len: usize, card: u32, counter: u32) -> u64 {
+        let mut part = self.clone();
+        part.steps.truncate(len * STEP_BYTES);
+        part.answers = Guarded::new(&vec![0; len * ANSWER_WORDS]);
+        assert_eq!(part.run(reference), OK);
+        let each = replica_words(self.cards as usize, self.counters as usize);
+        let words = &part.words.get()[card as usize * each..][..each];
+        replica::read(words, counter.into()).expect("a run's words").value
+    }
 }
 
 fn steps_of(bytes: &[u8]) -> Vec<Step> {
@@ -78,6 +90,7 @@ pub fn require_all(tally: &Tally) {
     tally.require("run", RUN);
     tally.require("records", RUN);
     tally.require("step", STEP);
+    tally.require("value", &[0, 1]);
 }
 
 fn compare(lent: &Lent, place: Place, tally: &mut Tally) {
@@ -98,14 +111,18 @@ fn compare(lent: &Lent, place: Place, tally: &mut Tally) {
         assert!(theirs.same_buffers(lent), "a refused run wrote: {}", place());
         return;
     }
-    for answer in theirs.answers.get() {
-        tally.note("step", *answer);
-    }
     let (cards, counters) = (lent.cards as usize, lent.counters as usize);
-    let steps = steps_of(&lent.steps);
     let mut ledgers: Vec<Ledger> = (0..counters).map(|q| Ledger::new(cards, q)).collect();
-    for (step, answer) in steps.iter().zip(theirs.answers.get()) {
-        feed(&mut ledgers, *step, *answer, cards, place);
+    for (at, step) in steps_of(&lent.steps).into_iter().enumerate() {
+        let answer = answers(theirs.answers.get())[at];
+        let [number, value] = answer;
+        tally.note("step", number);
+        if step.kind == STEP_READ_AND_CLEAR && number == OK {
+            let due = lent.value_after(at, step.first, step.second);
+            assert_eq!(value, due, "{step:?}, number {at}: {}", place());
+            tally.note("value", value.min(1));
+        }
+        feed(&mut ledgers, step, answer, cards, place);
     }
     for (card, words) in theirs.words.get().chunks_exact(replica_words(cards, counters)).enumerate()
     {
@@ -114,14 +131,22 @@ fn compare(lent: &Lent, place: Place, tally: &mut Tally) {
     waiting_in_logs(&theirs, &ledgers[0], place);
 }
 
-fn feed(ledgers: &mut [Ledger], step: Step, answer: u64, cards: usize, place: Place) {
+/// The answer is one that the ledgers allow, and they are fed whether it is 0. The value is that
+/// of the counter's ledger before an accepted read-and-clear, and otherwise 0.
+fn feed(ledgers: &mut [Ledger], step: Step, answer: Answer, cards: usize, place: Place) {
+    let [number, value] = answer;
     let (first, second) = (step.first as usize, step.second as usize);
     if step.kind == STEP_DELIVER && first < cards && second < cards && first != second {
         let waits = ledgers[0].waits(first, second);
-        assert_eq!(answer == OK, waits, "{step:?} answered {answer}: {}", place());
+        assert_eq!(number == OK, waits, "{step:?} answered {number}: {}", place());
     }
+    let due = match step.kind {
+        STEP_READ_AND_CLEAR if number == OK => ledgers[second].value(first),
+        _ => 0,
+    };
+    assert_eq!(value, due, "{step:?} answered {number}: {}", place());
     for ledger in ledgers {
-        if let Err(trouble) = ledger.feed(step, answer == OK) {
+        if let Err(trouble) = ledger.feed(step, number == OK) {
             panic!("{trouble}: {}", place());
         }
     }
@@ -171,7 +196,7 @@ fn right_sizes(random: &mut Random, longest: u64) -> Lent {
         log_bytes: log_bytes as u64,
         words: Guarded::new(&random.words(cards * replica_words(cards, counters))),
         logs: Guarded::new(&logs),
-        answers: Guarded::new(&random.words(steps.len())),
+        answers: Guarded::new(&random.words(ANSWER_WORDS * steps.len())),
         steps: steps.iter().flat_map(|step| step.to_bytes()).collect(),
     }
 }
@@ -274,7 +299,10 @@ fn wrong_sizes(random: &mut Random, lent: &mut Lent) {
             lent.logs = Guarded::new(&random.bytes(len));
         }
         5 => {
-            let len = one_off(random, lent.answers.get().len());
+            let len = lent.answers.get().len();
+            // One word for each step is too few.
+            let a_word_each = random.percent(50);
+            let len = if a_word_each { len / ANSWER_WORDS } else { one_off(random, len) };
             lent.answers = Guarded::new(&random.words(len));
         }
         6 => {
@@ -320,6 +348,7 @@ pub fn alphabet(cards: usize, counters: usize) -> Vec<Step> {
         for counter in 0..counters as u32 {
             steps.push(Step::count(card, counter));
             steps.push(Step::clear(card, counter));
+            steps.push(Step::read_and_clear(card, counter));
         }
         steps.extend((0..cards as u32).filter(|s| *s != card).map(|s| Step::deliver(card, s)));
     }
@@ -357,35 +386,39 @@ impl Search {
     }
 
     /// Both runs of the present list, compared; the answers and the words stay for the ledgers.
-    fn run(&mut self) -> (Vec<u64>, Vec<u64>) {
+    fn run(&mut self) -> (Vec<Answer>, Vec<u64>) {
         let (r, k, log) = (self.cards as u64, self.counters as u64, self.log_bytes as u64);
         let each = replica_words(self.cards, self.counters);
         let len = self.steps.len() / STEP_BYTES;
-        let buffers = || (vec![7u64; self.cards * each], self.foreign.clone(), vec![7u64; len]);
-        let (mut words, mut logs, mut answers) = buffers();
-        let lent = Buffers { words: &mut words, logs: &mut logs, answers: &mut answers };
-        let theirs = library::run(r, k, log, &self.steps, lent);
-        let (mut our_words, mut our_logs, mut our_answers) = buffers();
-        let lent =
-            Buffers { words: &mut our_words, logs: &mut our_logs, answers: &mut our_answers };
-        let ours = reference(r, k, log, &self.steps, lent);
-        let same =
-            ours == theirs && our_words == words && our_logs == logs && our_answers == answers;
-        assert!(same, "run of {}", self.text());
+        let on = |call: Run| {
+            let (mut words, mut logs) = (vec![7; self.cards * each], self.foreign.clone());
+            let mut answers = vec![[7; ANSWER_WORDS]; len];
+            let flat = answers.as_flattened_mut();
+            let lent = Buffers { words: &mut words, logs: &mut logs, answers: flat };
+            (call(r, k, log, &self.steps, lent), words, logs, answers)
+        };
+        let theirs = on(library::run);
+        assert!(on(reference) == theirs, "run of {}", self.text());
+        let (_, words, _, answers) = theirs;
         (answers, words)
     }
 
-    /// The ledgers after the last step, held against every read.
-    fn follow(&self, before: &[Ledger], run: &(Vec<u64>, Vec<u64>)) -> Vec<Ledger> {
+    /// The ledgers after the last step, held against every read; and the total, wherever one card
+    /// alone clears, always by read-and-clear.
+    fn follow(&self, before: &[Ledger], run: &(Vec<Answer>, Vec<u64>)) -> Vec<Ledger> {
         let mut ledgers = before.to_vec();
         let (answers, words) = run;
         let place = || self.text();
-        if let (Some(step), Some(answer)) = (steps_of(&self.steps).last(), answers.last()) {
+        let steps = steps_of(&self.steps);
+        if let (Some(step), Some(answer)) = (steps.last(), answers.last()) {
             feed(&mut ledgers, *step, *answer, self.cards, &place);
         }
         let each = replica_words(self.cards, self.counters);
         for (card, words) in words.chunks_exact(each).enumerate() {
             against_ledgers(&ledgers, card, words, &place);
+            for counter in 0..self.counters {
+                Collector { card, counter }.check(accepted(&steps, answers), words, &place);
+            }
         }
         ledgers
     }

@@ -33,10 +33,15 @@ mul-needed c =
     omega (arith, mul-le-mul (facts .few-cards) long)
 
 is-product-requires : tie.Need-is-product-requires
-is-product-requires c κs = sized (c .before) .some-cards
+is-product-requires c κs = omega arith
+
+is-product-requires-2 : tie.Need-is-product-requires-2
+is-product-requires-2 c κs = sized (c .before .before) .some-cards
 
 returns : tie.Need-returns
-returns c = rw (in-range (c .before .before), c .before .replica-words .ensures, c .is-product .ensures)
+returns c =
+    let words = c .before .before in
+    rw (in-range (words .before), words .replica-words .ensures, c .before .is-product .ensures, c .is-product2 .ensures)
 
 returns-2 : tie.Need-returns-2
 returns-2 c = rw (← c .before .are-sizes-in-range .ensures, c .if1 .left)
@@ -49,5 +54,6 @@ sizes-are-right-spec =
     replica-words-requires
     mul-needed
     is-product-requires
+    is-product-requires-2
     returns
     returns-2)

@@ -7,7 +7,7 @@ use lib.ListN.{length, take, drop, length-drop, drop-of-length-le}
 use lib.Seq.{take-all}
 use denote.Ref.{now}
 use borrow.Author.Needs.{needs}
-use Rattle.replica_model.specs.Calls.{SendOutcome}
+use Rattle.replica_model.specs.Calls.{ClearedOutcome}
 use Rattle.chassis.specs.StepCodeLaws.{appended}
 use Rattle.chassis.proofs.stepping.append.Statement.{statement}
 use Rattle.chassis.proofs.stepping.append.Tie as tie
@@ -43,7 +43,7 @@ returns c =
     let none : drop (length log - args .at) rest ≡ [] = drop-of-length-le rest all in
     let done = rw whole at (called .send .ensures) in
     rw (none, append-nil (called .send .last .1 .1 .1 .0))
-    (ap (λ (o : SendOutcome). record { answer = o .answer; words = o .words; out = take (args .at) log ++ o .out }) done)
+    (ap (λ (o : ClearedOutcome). record { answer = o .answer; words = o .words; out = take (args .at) log ++ o .out }) done)
 
 pub append-spec : {M : Type 1} → statement M
 append-spec =

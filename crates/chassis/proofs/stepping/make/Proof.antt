@@ -1,7 +1,7 @@
 -- The card's parts of the words and of the logs lie inside, and its own place inside its log; what the call leaves in them is then what a step that makes
 -- a message leaves (`made-did`), and the place it leaves lies inside the log again (`made-place`).
-use Prim.Native.Nat.{_+_, _*_, _≤_}
-use mathlib.Core.Path.{_≡_, refl, ap, _∙_}
+use Prim.Native.Nat.{ℕ, _+_, _*_, _≤_}
+use mathlib.Core.Path.{_≡_, refl, ap}
 use native.Mathlib.Nat.{add-sub-cancel-left}
 use native.Mathlib.Omega.{arith}
 use lib.ListN.{length, getD}
@@ -9,9 +9,9 @@ use mir.Syntax.{w64}
 use mir.Val.{Fits}
 use denote.Ref.{now}
 use borrow.Author.Needs.{needs}
-use Rattle.replica_model.specs.Calls.{SendOutcome}
+use Rattle.replica_model.specs.Calls.{ClearedOutcome}
 use Rattle.chassis_model.specs.ListParts.{part, put-part}
-use Rattle.chassis_model.specs.Run.{answered}
+use Rattle.chassis_model.specs.declared.StepAnswer.{StepAnswer}
 use Rattle.chassis_model.specs.Places.{link-place}
 use Rattle.chassis.specs.StepCodeLaws.{appended, card-few, words-room, logs-room, log-long, place-small, made-did, made-place}
 use Rattle.chassis.proofs.stepping.make.Statement.{statement}
@@ -29,7 +29,7 @@ capacity-fits c = omega (arith, logs-end (c .before .before))
 
 -- what the call left, of the parts and the place by name
 sent-is : (c : tie.After-append) → let args = c .before .before .before .before .before .before .before .before .before .before .before .args in
-    _≡_ {A = SendOutcome} (record { answer = c .append .result; words = c .append .last .1 .0; out = c .append .last .1 .1 .1 .0 })
+    _≡_ {A = ClearedOutcome} (record { answer = c .append .result; words = c .append .last .1 .0; out = c .append .last .1 .1 .1 .0 })
     (appended (args .making) (args .counter) (part (args .sizes .«replica_words») (now (args .words)) (args .card)) (part (args .sizes .«log_bytes») (now (args .logs)) (args .card))
     (getD (now (args .places)) (link-place (args .card) (args .card)) 0))
 unfolding part
@@ -118,9 +118,6 @@ element-write-places c =
 step-number-requires : tie.Need-step-number-requires
 step-number-requires c κs = tt
 
-answered-requires : tie.Need-answered-requires
-answered-requires c κs = tt
-
 same-length : tie.Need-same-length
 same-length c = search needs
 
@@ -130,14 +127,13 @@ same-length-2 c = search needs
 returns : tie.Need-returns
 unfolding put-part
 returns c =
-    let number = c .before in
-    let append = number .before .before .before .before .before .before in
+    let append = c .before .before .before .before .before .before in
     let link = append .before .before .before .before .before .before .before .before in
     let start = link .before .before .before in
     let args = start .args in
     rw (add-sub-cancel-left (args .card * args .sizes .«replica_words») (args .sizes .«replica_words»), add-sub-cancel-left (args .card * args .sizes .«log_bytes») (args .sizes .«log_bytes»), link .link .ensures .0)
     (made-did _ _ _ _ (start .pre .0) (args .making) (args .card) (args .counter) _ _ _ _ (start .pre .1) refl (sent-is append) _
-    (c .answered .ensures ∙ ap answered (number .step-number .ensures)))
+    (ap {B = StepAnswer} (λ (n : ℕ). record { number = n; value = append .append .result .value }) (c .step-number .ensures)))
 
 pub make-spec : {M : Type 1} → statement M
 make-spec =
@@ -162,7 +158,6 @@ make-spec =
     mul-places
     element-write-places
     step-number-requires
-    answered-requires
     same-length
     same-length-2
     returns)

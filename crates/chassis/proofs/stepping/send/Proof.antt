@@ -1,5 +1,7 @@
 -- The call is the one of the making that the arm names.
+use mathlib.Core.Path.{ap}
 use borrow.Author.Needs.{needs}
+use Rattle.replica_model.specs.Calls.{SendOutcome, with-value}
 use Rattle.chassis_model.specs.Run.{call-of}
 use Rattle.chassis.proofs.stepping.send.Statement.{statement}
 use Rattle.chassis.proofs.stepping.send.Tie as tie
@@ -10,11 +12,23 @@ enum-told c = search needs
 count-requires : tie.Need-count-requires
 count-requires c κs = search needs
 
+beside-requires : tie.Need-beside-requires
+beside-requires c κs = search needs
+
 enum-told-2 : tie.Need-enum-told-2
 enum-told-2 c = search needs
 
 clear-requires : tie.Need-clear-requires
 clear-requires c κs = search needs
+
+beside-requires-2 : tie.Need-beside-requires-2
+beside-requires-2 c κs = search needs
+
+enum-told-3 : tie.Need-enum-told-3
+enum-told-3 c = search needs
+
+read-and-clear-requires : tie.Need-read-and-clear-requires
+read-and-clear-requires c κs = search needs
 
 same-length : tie.Need-same-length
 same-length c = search needs
@@ -25,8 +39,8 @@ same-length-2 c = search needs
 returns : tie.Need-returns
 unfolding call-of
 returns c =
-    let called = c .before .before .before .before in
-    rw (called .before .before .before .enum-told .given .1) (called .count .ensures)
+    let called = c .before .before .before .before .before in
+    rw (called .before .before .before .enum-told .given .1, c .beside .ensures) (ap (λ (o : SendOutcome). with-value 0 o) (called .count .ensures))
 
 same-length-3 : tie.Need-same-length-3
 same-length-3 c = search needs
@@ -37,8 +51,20 @@ same-length-4 c = search needs
 returns-2 : tie.Need-returns-2
 unfolding call-of
 returns-2 c =
+    let called = c .before .before .before .before .before in
+    rw (called .before .before .before .enum-told2 .given .1, c .beside2 .ensures) (ap (λ (o : SendOutcome). with-value 0 o) (called .clear .ensures))
+
+same-length-5 : tie.Need-same-length-5
+same-length-5 c = search needs
+
+same-length-6 : tie.Need-same-length-6
+same-length-6 c = search needs
+
+returns-3 : tie.Need-returns-3
+unfolding call-of
+returns-3 c =
     let called = c .before .before .before .before in
-    rw (called .before .before .before .enum-told2 .given .1) (called .clear .ensures)
+    rw (called .before .before .before .enum-told3 .given .1) (called .read-and-clear .ensures)
 
 pub send-spec : {M : Type 1} → statement M
 send-spec =
@@ -46,11 +72,18 @@ send-spec =
     (tie.spec
     enum-told
     count-requires
+    beside-requires
     enum-told-2
     clear-requires
+    beside-requires-2
+    enum-told-3
+    read-and-clear-requires
     same-length
     same-length-2
     returns
     same-length-3
     same-length-4
-    returns-2)
+    returns-2
+    same-length-5
+    same-length-6
+    returns-3)
