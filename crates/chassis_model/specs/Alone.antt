@@ -56,7 +56,7 @@ own-calls r k q calls = own-calls-from (λ c v. c) q calls (opened r k)
 abbrev pub own-call-values : ℕ → ℕ → ℕ → List Call → List ℕ
 own-call-values r k q calls = own-calls-from (λ c v. v) q calls (opened r k)
 
--- A call again, on cards that have come another way: the same count or clear, and for a take of one of card s's messages the one whose turn it is there.
+-- A call again, on cards that have come another way: the same making, and for a take of one of card s's messages the one whose turn it is there.
 -- (Its bytes are others: p and c depend on all counters.)
 abbrev pub again : ℕ → Call → Cards → Call
 again r (make m i q out) st = make m i q out

@@ -15,8 +15,7 @@ use Rattle.wire.specs.declared.Message as wire
 use Rattle.wire.specs.Message as form
 use Rattle.wire.specs.Message.{header-bytes, increment-bytes, entry-bytes, entries-bytes, clear-bytes, message-bytes, header-in-range, increment-in-range, clear-in-range, entry-in-range, entries-in-range, unused, in-range, increment-message, entries-at, called-length, message-at, reads, front-length}
 use Rattle.replica_model.specs.Layout.{fresh-words}
-use Rattle.replica_model.specs.Calls as calls
-use Rattle.replica_model.specs.Calls.{sizes-in-range, right, row-well-formed, reading, read-on, count-on, clear-on, read-and-clear-on, take-on, replica-fits, send-with, words-after, take-with}
+use Rattle.replica_model.specs.Calls.{sizes-in-range, right, row-well-formed, reading, read-on, count-on, clear-on, read-and-clear-on, replica-fits, send-with, words-after, take-with}
 use Rattle.replica_model.specs.Format.{content}
 use Rattle.chassis_model.specs.ListParts.{part, put-part}
 use Rattle.chassis_model.specs.Log.{waiting-part, end-of}

@@ -6,7 +6,7 @@ use mathlib.Core.Bool.{true, not}
 use mathlib.Core.List.{List, [], _∷_, map}
 use native.Mathlib.Omega.{arith}
 use lib.ListN.{length, length-append, length-map}
-use lib.Dec.{eqb, leb}
+use lib.Dec.{leb}
 use borrow.Author.Tests.{ltb-true, leb-true, le-leb, eq-eqb, ne-eqb, eqb-true, eqb-false, not-true}
 use Rattle.protocol.specs.Limits.{MAX, log-full}
 use Rattle.protocol.specs.Cases.{by-place, by-test}

@@ -11,7 +11,7 @@ use borrow.Author.Tests.{ltb-true, eq-eqb, ne-eqb, eqb-true}
 use Rattle.protocol.specs.Cases.{by-place, by-test}
 use lib.Dec.{leb}
 use Rattle.protocol.specs.Limits.{short-output}
-use Rattle.protocol.specs.Checks.{Check, or-else}
+use Rattle.protocol.specs.Checks.{or-else}
 use Rattle.protocol.specs.ChecksLaws.{first-passes, all-accepts, all-first, all-second, all-append}
 use Rattle.protocol.specs.Ledger as ledger
 use Rattle.protocol.specs.Ledger.{after-accepted}

@@ -23,7 +23,7 @@ use Rattle.replica_model.specs.Calls.{left-checks, not-sent, words-after, Clear
 use Rattle.replica_model.specs.Format.{on-wire}
 use Rattle.chassis_model.specs.ListParts.{put-part}
 use Rattle.chassis_model.specs.ListPartsLaws.{part-length, put-part-same, put-part-length, part-put}
-use Rattle.chassis_model.specs.Run.{Making, call-of, State, Stepped, answered, declined, replica-of, log-of, free-from, made}
+use Rattle.chassis_model.specs.Run.{Making, call-of, State, Stepped, declined, replica-of, log-of, free-from, made}
 use Rattle.chassis_model.specs.Answers.{message-size, maker-checks}
 use Rattle.chassis_model.specs.Log.{end-of}
 use Rattle.chassis_model.specs.LogLaws.{Readable, AllReadable, written, written-log}

@@ -1,16 +1,16 @@
 -- LAWS. The total of a counter that one card clears, always by read and clear. In a run and in a driver's history the values answered are what the theory reads right
 -- before each clear, so the theory's total (`protocol`'s `ReadAndClearLaws`) is one on the answers.
 use Prim.Native.Nat.{ℕ, _+_, _<_}
-use mathlib.Core.Path.{_≡_, refl, sym, ap, ap₂, _∙_}
-use mathlib.Core.Bool.{Bool, true, false, cond, _&&_}
+use mathlib.Core.Path.{_≡_, refl, sym, ap₂, _∙_}
+use mathlib.Core.Bool.{true, false, cond, _&&_}
 use mathlib.Core.List.{List, [], _∷_, map}
 use lib.Dec.{eqb}
 use lib.ListN.{length}
 use borrow.Author.Tests.{eqb-true, eq-eqb, ne-eqb}
 use Rattle.protocol.specs.Cases.{by-test, by-place, and-left, and-right, and-no-right}
 use Rattle.protocol.specs.Ledger as ledger
-use Rattle.protocol.specs.Ledger.{Ledger, empty-ledger, after-steps, ledger-value}
-use Rattle.protocol.specs.Chassis.{Chassis, fresh-chassis, accepted, read-value}
+use Rattle.protocol.specs.Ledger.{empty-ledger, after-steps, ledger-value}
+use Rattle.protocol.specs.Chassis.{fresh-chassis, accepted, read-value}
 use Rattle.protocol.specs.Theorem.{value-is}
 use Rattle.protocol.specs.Increments.{increments-received}
 use Rattle.protocol.specs.ReadAndClearLaws.{ClearedBy, OneClears, is-clear, read-before, names-received, received-told}
@@ -20,7 +20,7 @@ use Rattle.replica_model.specs.RowLaws.{sizes}
 use Rattle.chassis_model.specs.ListParts.{part}
 use Rattle.chassis_model.specs.Run.{Count, Clear, ReadAndClear, Action, Make, Deliver, Nothing, Step, action-of, step-on, answers-of, numbers-in, values-in, sizes-right, run-on}
 use Rattle.chassis_model.specs.Ledger.{ledger-action, ledger-step, was-accepted, accepted-of, ledger-of}
-use Rattle.chassis_model.specs.Answers.{fresh-state, value-asked}
+use Rattle.chassis_model.specs.Answers.{value-asked}
 use Rattle.chassis_model.specs.Driver.{Call, make, take, opened, number-of, value-of, Genuine, numbers, values, cards-after, GenuineHistory, call-step, history-ledger}
 use Rattle.chassis_model.specs.ReadAndClearOf.{call-action, ClearsByReading, OnlyReadAndClears, is-read-and-clear, collected}
 use Rattle.chassis_model.specs.InStep.{CardsAt}

@@ -17,7 +17,7 @@ use Rattle.protocol.specs.Checks.{or-else, first-failing}
 use Rattle.protocol.specs.ChecksLaws.{first-is, first-passes, all-second}
 use Rattle.wire.specs.Message.{message-bytes, message-length, over}
 use Rattle.wire.specs.Claims.{message-bytes-length}
-use Rattle.replica_model.specs.Layout.{cards, counters, own-card, N-of}
+use Rattle.replica_model.specs.Layout.{cards, own-card, N-of}
 use Rattle.replica_model.specs.Calls.{SendOutcome, left-checks, send-checks, not-sent, sent-with, words-after, ClearedOutcome, with-value}
 use Rattle.replica_model.specs.ClaimTerms.{Writable}
 use Rattle.replica_model.specs.RowLaws.{right-from, row-from}

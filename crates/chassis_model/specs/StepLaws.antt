@@ -8,7 +8,6 @@ use mathlib.Core.Bool.{true, not, _&&_, false≢true, and-eq-true-iff}
 use lib.ListN.{length}
 use lib.Dec.{ltb, eqb}
 use borrow.Author.Tests.{ltb-true, lt-ltb, eqb-false, ne-eqb, not-true}
-use native.Mathlib.Omega.{arith}
 use Rattle.protocol.specs.Checks.{AllPass, Gives}
 use Rattle.protocol.specs.ChecksLaws.{distinct, all-accepts, checked-cases, refusal-is}
 use Rattle.protocol.specs.RoundRobin.{IsLink}

@@ -3,7 +3,7 @@ use Prim.Native.Nat.{ℕ, _*_, _<_}
 use mathlib.Core.Path.{_≡_, refl, sym, ap, ap₂, subst, _∙_}
 use mathlib.Core.Bool.{Bool, true, cond}
 use mathlib.Core.List.{List, [], _∷_, _++_, map}
-use lib.ListN.{length, getD}
+use lib.ListN.{length}
 use Rattle.protocol.specs.Ledger as ledger
 use Rattle.protocol.specs.Ledger.{Ledger, after-steps}
 use Rattle.protocol.specs.Chassis as protocol

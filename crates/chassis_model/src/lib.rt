@@ -9,7 +9,7 @@ pub struct Step {
     pub second: u32,
 }
 
-// What a card makes in a step: a count or a clear, or a clear that is read before.
+// What a card makes in a step: a count, a clear, or a clear whose value is read just before.
 pub enum Making {
     Count,
     Clear,

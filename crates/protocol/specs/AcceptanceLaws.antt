@@ -1,14 +1,13 @@
 -- LAWS. What the tests of `Acceptance` say in plain numbers (`Rows`), and that those numbers are enough.
 use Prim.Native.Nat.{ℕ, zero, suc, _+_, _≤_, _<_}
 use mathlib.Core.Path.{_≡_, refl, ap}
-use mathlib.Core.Logic.{_↔_}
 use mathlib.Core.List.{List, [], _∷_}
 use mathlib.Core.Bool.{Bool, true, false, not, cond, _&&_, _||_, and-eq-true-iff, false≢true}
 use native.Mathlib.Omega.{arith}
 use lib.Dec.{leb, ltb, eqb}
-use borrow.Author.Tests.{leb-true, ltb-true, eqb-true, le-leb, lt-ltb, le-ltb, lt-leb, eq-eqb, ne-eqb}
+use borrow.Author.Tests.{ltb-true, lt-ltb, le-ltb, lt-leb, eq-eqb, ne-eqb}
 use Rattle.protocol.specs.Limits.{MAX}
-use Rattle.protocol.specs.Cases.{by-le, by-place, by-test, or-cases, or-left, or-right, and-yes, and-no-right}
+use Rattle.protocol.specs.Cases.{by-le, by-place, or-cases, or-left, or-right, and-yes, and-no-right}
 pub use Rattle.protocol.specs.Tests.{tests}
 use Rattle.protocol.specs.Functions.{all-below, count-below}
 use Rattle.protocol.specs.Entry.{Entry}

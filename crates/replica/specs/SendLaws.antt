@@ -1,4 +1,4 @@
--- LAWS. What count and clear share: the checks before a message is made, as one number, and the outcome of a message that is made, whatever it says; then what
+-- LAWS. What the calls that make a message share: the checks before a message is made, as one number, and the outcome of a message that is made, whatever it says; then what
 -- each of the two sends.
 use Prim.Native.Nat.{ℕ, suc, _+_, _-_, _≤_, _<_}
 use mathlib.Core.Path.{_≡_, refl, sym, ap, _∙_}
@@ -9,7 +9,7 @@ use native.Mathlib.Omega.{arith}
 use lib.ListN.{length, take, set, replicate, length-append}
 use lib.Seq.{take-append-seam, set-append-seam, append-snoc}
 use lib.Dec.{leb, eqb}
-use borrow.Author.Tests.{le-leb, lt-leb, eq-eqb, ne-eqb}
+use borrow.Author.Tests.{le-leb, lt-leb, ne-eqb}
 use Rattle.protocol.specs.Limits.{MAX, most-cards, short-output}
 use Rattle.protocol.specs.Checks.{Check, or-else, checked, first-failing}
 use Rattle.protocol.specs.ChecksLaws.{first-refuses, first-passes, all-accepts, checked-append}
@@ -66,26 +66,19 @@ module _ (b : List ℕ) (q : ℕ) where
 
 -- ---- a clear with the value read before it
 
-module _ (b : List ℕ) (q : ℕ) (out : List ℕ) where
-  -- what the call makes of a clear's outcome
-  abbrev valued : SendOutcome → ClearedOutcome
-  valued done = with-value (cond (eqb (done .answer .number) 0) (reading b q .value) 0) done
+-- what the call makes of a clear's outcome
+abbrev pub valued : List ℕ → ℕ → SendOutcome → ClearedOutcome
+valued b q done = with-value (cond (eqb (done .answer .number) 0) (reading b q .value) 0) done
 
+module _ (b : List ℕ) (q : ℕ) (out : List ℕ) where
   pub read-and-clear-refused : first-failing (making-checks b q) ≢ 0
       → with-value 0 (not-sent (first-failing (making-checks b q)) b out) ≡ read-and-clear-on b q out
   unfolding read-and-clear-on clear-on
-  read-and-clear-refused some = rw (ne-eqb (first-failing (making-checks b q)) 0 some) at (ap valued (send-refused b q out (clear-of b q) some))
+  read-and-clear-refused some = rw (ne-eqb (first-failing (making-checks b q)) 0 some) at (ap (valued b q) (send-refused b q out (clear-of b q) some))
 
-  module _ (none : first-failing (making-checks b q) ≡ 0) (done : SendOutcome) (cleared : done ≡ with-room b out (clear-of b q)) where
-    is-valued : valued done ≡ read-and-clear-on b q out
-    unfolding read-and-clear-on clear-on
-    is-valued = ap valued (cleared ∙ send-passed b q out (clear-of b q) none)
-
-    pub read-and-clear-short : done .answer .number ≢ 0 → with-value 0 done ≡ read-and-clear-on b q out
-    read-and-clear-short some = rw (ne-eqb (done .answer .number) 0 some) at is-valued
-
-    pub read-and-clear-done : (value : ℕ) → value ≡ reading b q .value → done .answer .number ≡ 0 → with-value value done ≡ read-and-clear-on b q out
-    read-and-clear-done value is sent = rw is (rw (eq-eqb (done .answer .number) 0 sent) at is-valued)
+  pub read-and-clear-passed : first-failing (making-checks b q) ≡ 0 → valued b q (with-room b out (clear-of b q)) ≡ read-and-clear-on b q out
+  unfolding read-and-clear-on clear-on
+  read-and-clear-passed none = ap (valued b q) (send-passed b q out (clear-of b q) none)
 
 module _ (b : List ℕ) (r q : ℕ) (first : r ≡ cards b) (h : Sending b q) where
   pub row-inside : RowInside b r q

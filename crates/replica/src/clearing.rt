@@ -1,6 +1,5 @@
 // The calls that clear: each makes a clear of every present entry, writes it to the output and applies it to the own replica.
 use crate::effect;
-use crate::read;
 use crate::sending;
 use crate::words;
 use protocol::ClearEntry;
@@ -11,13 +10,25 @@ ghost use mathlib.Core.Path.{_≡_};
 ghost use Rattle.replica_model.specs.Layout.{cards};
 ghost use Rattle.replica_model.specs.Calls.{SendOutcome, clear-of, clear-on, ClearedOutcome, read-and-clear-on};
 ghost use Rattle.replica_model.specs.Senders.{Sending};
-ghost use Rattle.replica.specs.SendLaws.{with-room, beside};
+ghost use Rattle.replica.specs.SendLaws.{with-room, beside, valued};
+
+// A value beside what a call that sends answers.
+pub fn beside(value: u64, sent: Sent) -> Cleared
+    ensures { λ a. ⌜ a ≡ beside value sent ⌝ }
+{
+    Cleared {
+        number: sent.number,
+        value,
+        sequence: sent.sequence,
+        length: sent.length,
+    }
+}
 
 // The call where every check but the last has passed. Nothing is written before that one. The message, of every present entry (line 29), is made
-// here and not in a function that returns it, which would copy it.
-fn send_clear(words: &mut [u64], r: usize, q: usize, out: &mut [u8]) -> Sent
+// here and not in a function that returns it, which would copy it; the value is summed up on the way.
+fn send_clear(words: &mut [u64], r: usize, q: usize, out: &mut [u8]) -> Cleared
     requires { ⌜ (r ≡ cards (now words)) × Sending (now words) q ⌝ }
-    ensures { λ a. ⌜ _≡_ {A = SendOutcome} (record { answer = a; words = now (words .exit); out = now (out .exit) }) (with-room (now (words .entry)) (now (out .entry)) (clear-of (now (words .entry)) q)) ⌝ }
+    ensures { λ a. ⌜ _≡_ {A = ClearedOutcome} (record { answer = a; words = now (words .exit); out = now (out .exit) }) (valued (now (words .entry)) q (with-room (now (words .entry)) (now (out .entry)) (clear-of (now (words .entry)) q))) ⌝ }
 {
     let own = words::own_card(words);
     let sequence = words::messages_at(words, r, own) + 1;
@@ -32,6 +43,7 @@ fn send_clear(words: &mut [u64], r: usize, q: usize, out: &mut [u8]) -> Sent
         len: 0,
         entries: [wire::NO_ENTRY; wire::MOST_ENTRIES],
     };
+    let mut value: u64 = 0;
     let mut len: usize = 0;
     let mut j: usize = 0;
     while j < r {
@@ -41,6 +53,7 @@ fn send_clear(words: &mut [u64], r: usize, q: usize, out: &mut [u8]) -> Sent
         if e.p == 0 {
             continue;
         }
+        value = value + (e.p - e.n);
         m.entries[len] = ClearEntry {
             card,
             p: e.p,
@@ -51,45 +64,20 @@ fn send_clear(words: &mut [u64], r: usize, q: usize, out: &mut [u8]) -> Sent
     m.len = len;
     let length = wire::encode::length_of(wire::CLEAR, len);
     if out.len() < length {
-        return sending::refused(protocol::SHORT_OUTPUT);
+        return beside(0, sending::refused(protocol::SHORT_OUTPUT));
     }
     wire::encode::put_clear(m, out);
     effect::apply_clear(words, r, q, own, m);
-    Sent {
+    Cleared {
         number: 0,
+        value,
         sequence,
         length: length as u64,
     }
 }
 
-// Ruled out: a clear that counts in C (must-fail/clears_count_in_C), and one that drops an entry as soon as p = n
-// (must-fail/drop_as_soon_as_p_is_n).
-pub fn clear(words: &mut [u64], counter: u64, out: &mut [u8]) -> Sent
-    ensures { λ a. ⌜ _≡_ {A = SendOutcome} (record { answer = a; words = now (words .exit); out = now (out .exit) }) (clear-on (now (words .entry)) counter (now (out .entry))) ⌝ }
-{
-    let number = sending::refusal(words, counter);
-    if number != 0 {
-        return sending::refused(number);
-    }
-    let r = words::cards_of(words);
-    send_clear(words, r, words::index(counter), out)
-}
-
-// A value beside what a call that sends answers.
-pub fn beside(value: u64, sent: Sent) -> Cleared
-    ensures { λ a. ⌜ a ≡ beside value sent ⌝ }
-{
-    Cleared {
-        number: sent.number,
-        value,
-        sequence: sent.sequence,
-        length: sent.length,
-    }
-}
-
-// The checks are made once, for both. The value is read before anything is written.
-// Ruled out: a value read after the clear (must-fail/value_after_the_clear of crate replica_model), and one of another counter
-// (must-fail/value_of_another_counter).
+// Ruled out: a value read after the clear, and one of another counter (must-fail/value_after_the_clear, value_of_another_counter of crate
+// replica_model).
 pub fn read_and_clear(words: &mut [u64], counter: u64, out: &mut [u8]) -> Cleared
     ensures { λ a. ⌜ _≡_ {A = ClearedOutcome} (record { answer = a; words = now (words .exit); out = now (out .exit) }) (read-and-clear-on (now (words .entry)) counter (now (out .entry))) ⌝ }
 {
@@ -98,11 +86,19 @@ pub fn read_and_clear(words: &mut [u64], counter: u64, out: &mut [u8]) -> Cleare
         return beside(0, sending::refused(number));
     }
     let r = words::cards_of(words);
-    let q = words::index(counter);
-    let value = read::row_reading(words, r, q).value;
-    let sent = send_clear(words, r, q, out);
-    if sent.number != 0 {
-        return beside(0, sent);
+    send_clear(words, r, words::index(counter), out)
+}
+
+// The same without the value.
+// Ruled out: a clear that counts in C (must-fail/clears_count_in_C), and one that drops an entry as soon as p = n
+// (must-fail/drop_as_soon_as_p_is_n).
+pub fn clear(words: &mut [u64], counter: u64, out: &mut [u8]) -> Sent
+    ensures { λ a. ⌜ _≡_ {A = SendOutcome} (record { answer = a; words = now (words .exit); out = now (out .exit) }) (clear-on (now (words .entry)) counter (now (out .entry))) ⌝ }
+{
+    let cleared = read_and_clear(words, counter, out);
+    Sent {
+        number: cleared.number,
+        sequence: cleared.sequence,
+        length: cleared.length,
     }
-    beside(value, sent)
 }

@@ -1,4 +1,4 @@
-// What count and clear share: the checks before a message is made (`making-checks` has them and their order), and the answer of a call that
+// What the calls that make a message share: the checks before a message is made (`making-checks` has them and their order), and the answer of a call that
 // declines.
 use crate::words;
 use replica_model::Sent;

@@ -1,6 +1,6 @@
 -- LAWS. An accepted count, clear or take is one thing, a `Move`: the replica takes a message that fits it. A refused one leaves the words as they were.
 -- What holds of every move holds of the three calls.
-use Prim.Native.Nat.{ℕ, _+_, _-_, _*_, _^_, _<_}
+use Prim.Native.Nat.{ℕ, _-_, _^_, _<_}
 use mathlib.Core.Path.{_≡_, refl, ap, _∙_}
 use mathlib.Core.Logic.{_≢_}
 use mathlib.Core.List.{List, [], _∷_}
@@ -15,12 +15,12 @@ use Rattle.protocol.specs.declared.Entry.{Entry}
 use Rattle.protocol.specs.Entry.{present}
 use Rattle.protocol.specs.declared.ClearEntry.{ClearEntry}
 use Rattle.protocol.specs.Chassis.{Message, increment, clearing, count-message, clear-message, read-value, read-holders, counter-of}
-use Rattle.protocol.specs.StoreLaws.{CardsBelow, InLimits, shown, taken-words}
+use Rattle.protocol.specs.StoreLaws.{CardsBelow, InLimits, shown}
 use Rattle.protocol.specs.Checks.{AllPass, Gives, or-else}
 use Rattle.protocol.specs.ChecksLaws.{all-first, gives-passes}
 use Rattle.protocol.specs.AcceptanceLaws.{count-cong}
 use Rattle.wire.specs.Message.{message-at, increment-length, clear-length}
-use Rattle.replica_model.specs.Layout.{cards, counters, own-card, C-of, N-of, entry-of, layout}
+use Rattle.replica_model.specs.Layout.{cards, counters, own-card, C-of, N-of, entry-of}
 use Rattle.replica_model.specs.Calls.{right, row-well-formed, reading, read-on, count-on, clear-on, read-and-clear-on, take-on, send-checks, holders, count-of, clear-of, words-after, making-checks}
 use Rattle.replica_model.specs.ClaimTerms.{Right, Performed, OnlyMoves, Keeps, Isolates}
 use Rattle.replica_model.specs.RowLaws.{right-facts, right-from, row-facts, row-from}

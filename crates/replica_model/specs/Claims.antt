@@ -1,5 +1,5 @@
--- CLAIMS. What a caller of open, read, count, clear and take relies on, beyond each call's own equation (`Calls`). The terms are those of `ClaimTerms`.
-use Prim.Native.Nat.{ℕ, _+_, _*_, _≤_, _<_}
+-- CLAIMS. What a caller of open, read, count, clear, read and clear, and take relies on, beyond each call's own equation (`Calls`). The terms are those of `ClaimTerms`.
+use Prim.Native.Nat.{ℕ, _+_, _≤_, _<_}
 use mathlib.Core.Path.{_≡_, refl}
 use mathlib.Core.Logic.{_≢_, _↔_}
 use mathlib.Core.List.{List}

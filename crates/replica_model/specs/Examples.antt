@@ -1,5 +1,5 @@
 -- CLAIMS. The scenarios of a single card (SPECIFICATION 10.1), computed on the calls' definitions.
-use Prim.Native.Nat.{ℕ, _+_, _*_}
+use Prim.Native.Nat.{ℕ}
 use mathlib.Core.Path.{_≡_, refl}
 use mathlib.Core.List.{List}
 use mathlib.Core.Bool.{Bool, true, _&&_}

@@ -1,6 +1,6 @@
 -- CLAIMS. Each accepted call performs Algorithm 1 of the 2022 paper, in the paper's own form (`protocol`'s `Algorithm1`, line by line), from every replica on which the call is
 -- accepted, whether a run reaches it or not. `instance-of b q` is counter q of the words b as the paper's instance, `update-of` a message as the paper's update (`Paper`).
-use Prim.Native.Nat.{ℕ, _+_, _*_}
+use Prim.Native.Nat.{ℕ, _+_}
 use mathlib.Core.Path.{_≡_, sym, _∙_}
 use mathlib.Core.List.{List}
 use lib.ListN.{take}

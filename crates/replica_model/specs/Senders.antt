@@ -1,5 +1,5 @@
 -- LAWS. What a card sends: with a well-formed row and an own N below MAX, the messages of count and clear fit the own replica (`Fitting`) and can be written, and what is written reads as itself.
-use Prim.Native.Nat.{ℕ, zero, suc, _+_, _*_, _≤_, _<_}
+use Prim.Native.Nat.{ℕ, zero, suc, _+_, _≤_, _<_}
 use mathlib.Core.Path.{_≡_, refl, _∙_}
 use mathlib.Core.List.{List, [], _∷_, _++_, append-nil}
 use mathlib.Core.Bool.{true}

@@ -6,7 +6,7 @@ use native.Mathlib.Omega.{arith}
 use lib.Dec.{leb, ltb}
 use borrow.Author.Tests.{lt-ltb, le-ltb, lt-leb}
 use Rattle.protocol.specs.Limits.{repeated, early, implausible, bad-replica, unreadable}
-use Rattle.protocol.specs.Checks.{Check, or-else, AllPass}
+use Rattle.protocol.specs.Checks.{Check, or-else}
 use Rattle.protocol.specs.ChecksLaws.{all-append, refused-at}
 use Rattle.protocol.specs.Acceptance.{cards-known, plausible}
 use Rattle.protocol.specs.Chassis.{counter-of}

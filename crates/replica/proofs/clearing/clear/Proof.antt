@@ -1,68 +1,30 @@
--- The number says which check failed, or that none did (`send-refused`, `send-passed`).
+-- All but the value is clear's (`read-and-clear-on`).
 use borrow.Author.Needs.{needs}
-use mathlib.Core.Path.{_≡_, sym, _∙_}
-use denote.Ref.{now}
-use Rattle.protocol.specs.Checks.{first-failing}
-use Rattle.replica_model.specs.Calls.{making-checks, clear-on}
-use Rattle.replica.specs.WordsLaws.{head-inside}
-use Rattle.replica.specs.SendLaws.{sends, send-refused, send-passed}
+use mathlib.Core.Path.{ap}
+use Rattle.replica_model.specs.Calls.{SendOutcome, ClearedOutcome, read-and-clear-on}
 use Rattle.replica.proofs.clearing.clear.Statement.{statement}
 use Rattle.replica.proofs.clearing.clear.Tie as tie
 
-none : (c : tie.Else1) → let start = c .before .before .before .before .before in first-failing (making-checks (now (start .args .words)) (start .args .counter)) ≡ 0
-none c = sym (c .before .refusal .ensures) ∙ c .if1 .left
+-- the outcome without the value
+abbrev unvalued : ClearedOutcome → SendOutcome
+unvalued done = record {
+  answer = record { number = done .answer .number; sequence = done .answer .sequence; length = done .answer .length };
+  words = done .words;
+  out = done .out;
+}
 
-refusal-requires : tie.Need-refusal-requires
-refusal-requires c κs = search needs
-
-refused-requires : tie.Need-refused-requires
-refused-requires c κs = search needs
+read-and-clear-requires : tie.Need-read-and-clear-requires
+read-and-clear-requires c κs = search needs
 
 same-length : tie.Need-same-length
 same-length c = search needs
 
-returns : tie.Need-returns
-unfolding clear-on
-returns c =
-    let number = c .before .before in
-    rw (c .refused .ensures, number .refusal .ensures) (send-refused _ _ _ _ (rw (number .refusal .ensures) at (c .before .if1 .taken)))
-
-cards-of-requires : tie.Need-cards-of-requires
-cards-of-requires c κs = head-inside _ (sends _ _ (none (c .before)) .right)
-
-index-requires : tie.Need-index-requires
-index-requires c κs = search needs
-
-send-clear-requires : tie.Need-send-clear-requires
-send-clear-requires c κs =
-    let found = c .before .before .before in
-    (found .cards-of .ensures, rw (c .before .index .ensures) (sends _ _ (none (found .before .before))))
-
 same-length-2 : tie.Need-same-length-2
 same-length-2 c = search needs
 
-same-length-3 : tie.Need-same-length-3
-same-length-3 c = search needs
-
-returns-2 : tie.Need-returns-2
-unfolding clear-on
-returns-2 c =
-    let done = c .before .before .before .before in
-    let indexed = done .before .before in
-    let else1 = indexed .before .before .before .before in
-    (rw (indexed .index .ensures) at (done .send-clear .ensures)) ∙ send-passed _ _ _ _ (none else1)
+returns : tie.Need-returns
+unfolding read-and-clear-on
+returns c = ap unvalued (c .before .before .before .before .read-and-clear .ensures)
 
 pub clear-spec : {M : Type 1} → statement M
-clear-spec =
-    tie.close
-    (tie.spec
-    refusal-requires
-    refused-requires
-    same-length
-    returns
-    cards-of-requires
-    index-requires
-    send-clear-requires
-    same-length-2
-    same-length-3
-    returns-2)
+clear-spec = tie.close (tie.spec read-and-clear-requires same-length same-length-2 returns)
