@@ -18,8 +18,8 @@ use Rattle.chassis_model.specs.ReadAndClearOf.{call-action, OnlyReadAndC
 use Rattle.chassis_model.specs.ReadAndClearLaws as laws
 
 -- TOTAL. Of a run that answered 0, whatever its list: where each accepted step that clears counter q is a read and clear by card h, the values that these answered
--- and the value that a read of q on card h gives at the end add up to the increments of q that h has received, its own included. Declined steps, and clears of
--- other counters, do not matter.
+-- and the value that a read of q on card h gives at the end add up to the number of increments of q that h has received, its own included. Declined steps, and
+-- clears of other counters, do not matter.
 pub total : (r k L : ℕ) (steps : List Step) (words logs answers : List ℕ)
     → let after = run-on r k L steps words logs answers in
     let answered = numbers-in (after .answers) in
@@ -28,7 +28,7 @@ pub total : (r k L : ℕ) (steps : List Step) (words logs answers : List ℕ)
     ≡ increments-received h q (map ledger-step steps) (accepted-of answered)
 total r k L steps words logs answers accepted = laws.run-total r k L steps words logs answers (accepted-sizes r k L steps words logs answers .0 .0 accepted)
 
--- After any list of steps, the increments of q that a card has received are the names of its received set in the ledger of q.
+-- After any list of steps, a card has received as many increments of q as there are names in its received set in the ledger of q.
 pub increments-are-names : (r k L : ℕ) (steps : List Step) (words logs answers : List ℕ)
     → let after = run-on r k L steps words logs answers in
     after .number ≡ 0 → (h q : ℕ)
@@ -52,7 +52,7 @@ total-over-bytes r k L bytes words logs answers accepted =
     rw same (λ h q. (total r k L (steps-of bytes) words logs answers ran h q, increments-are-names r k L (steps-of bytes) words logs answers ran h q))
 
 -- TOTAL OF CALLS. The same two of a driver's genuine history: the values that card h's accepted `read_and_clear` of q have answered, and what a read of q there
--- gives now, add up to the increments of q that h has received, where no other accepted call has cleared q. The planner's table relies on this.
+-- gives now, add up to the number of increments of q that h has received, where no other accepted call has cleared q. The planner's table relies on this.
 pub total-of-calls : (r k : ℕ) → sizes-in-range r k ≡ true → (calls : List Call) → GenuineHistory r k calls → (h q : ℕ)
     → let answered = numbers calls (opened r k) in
     (h < r → q < k → OnlyReadAndClears h q (map call-action calls) answered

@@ -119,11 +119,13 @@ pub clear-message-writable : (b : List ℕ) (q : ℕ) → right b ≡ true → q
     → Writable (sent-as b (clear-of b q)) (clear-length (holders b q))
 clear-message-writable b q h l w d = clear-writable b q (sending-from b q h l w d)
 
--- Number 6 is never given by count or clear.
-pub never-unreadable : (b : List ℕ) (q : ℕ) (out : List ℕ) → (count-on b q out .answer .number ≢ unreadable) × (clear-on b q out .answer .number ≢ unreadable)
+-- Number 6 is never given by count, clear or read-and-clear.
+pub never-unreadable : (b : List ℕ) (q : ℕ) (out : List ℕ)
+    → (count-on b q out .answer .number ≢ unreadable) × (clear-on b q out .answer .number ≢ unreadable) × (read-and-clear-on b q out .answer .number ≢ unreadable)
 never-unreadable b q out = (
   λ h. let z = count-decided b q out .exact unreadable .0 h .1 .1 .1 .1 .1 in omega arith,
   λ h. let z = clear-decided b q out .exact unreadable .0 h .1 .1 .1 .1 .1 in omega arith,
+  λ h. let z = read-and-clear-decided b q out .exact unreadable .0 h .1 .1 .1 .1 .1 in omega arith,
 )
 
 -- ---- EVERY REFUSAL IS EXACT
@@ -179,6 +181,12 @@ count-accepts = fresh-count
 -- Clear accepts every counter of every fresh replica, into 28 bytes or more.
 pub clear-accepts : (r k own q : ℕ) → Sizes r k → own < r → q < k → (out : List ℕ) → clear-length 0 ≤ length out → clear-on (fresh-words r k own) q out .answer .number ≡ 0
 clear-accepts = fresh-clear
+
+-- Read-and-clear accepts what clear accepts.
+pub read-and-clear-accepts : (r k own q : ℕ) → Sizes r k → own < r → q < k → (out : List ℕ) → clear-length 0 ≤ length out
+    → read-and-clear-on (fresh-words r k own) q out .answer .number ≡ 0
+unfolding read-and-clear-on
+read-and-clear-accepts = fresh-clear
 
 -- Take accepts any other card's first increment on any counter of a fresh replica.
 pub take-accepts : (r k own q : ℕ) → Sizes r k → own < r → q < k → (j : ℕ) → j < r → j ≢ own
