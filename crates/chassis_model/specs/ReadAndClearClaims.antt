@@ -6,6 +6,7 @@ use mathlib.Core.Path.{_≡_}
 use mathlib.Core.Bool.{true}
 use mathlib.Core.List.{List, map}
 use lib.ListN.{length}
+use Rattle.protocol.specs.OneClears.{OneClears}
 use Rattle.protocol.specs.Increments.{increments-received}
 use Rattle.replica_model.specs.Layout.{replica-length}
 use Rattle.replica_model.specs.Calls.{sizes-in-range, read-on}
@@ -14,7 +15,7 @@ use Rattle.chassis_model.specs.Run.{Step, action-of, numbers-in, values-
 use Rattle.chassis_model.specs.Ledger.{ledger-step, accepted-of, ledger-of}
 use Rattle.chassis_model.specs.Driver.{Call, opened, numbers, values, cards-after, GenuineHistory, call-step, history-ledger}
 use Rattle.chassis_model.specs.RunLaws.{accepted-sizes, whole-steps, accepted-sizes-over-bytes}
-use Rattle.chassis_model.specs.ReadAndClearOf.{call-action, OnlyReadAndClears, collected}
+use Rattle.chassis_model.specs.ReadAndClearOf.{call-action, OnlyReadAndClears, collected, reads-before}
 use Rattle.chassis_model.specs.ReadAndClearLaws as laws
 
 -- TOTAL. Of a run that answered 0, whatever its list: where each accepted step that clears counter q is a read and clear by card h, the values that these answered
@@ -60,3 +61,11 @@ pub total-of-calls : (r k : ℕ) → sizes-in-range r k ≡ true → (calls : Li
     ≡ increments-received h q (map call-step calls) (accepted-of answered))
     × (increments-received h q (map call-step calls) (accepted-of answered) ≡ length (history-ledger r k calls q .received h))
 total-of-calls r k right calls genuine h q = (laws.history-total r k right calls genuine h q, laws.history-increments r k right calls genuine h q)
+
+-- TOTAL OF READS. The same sum of a driver that reads: where every accepted call that clears q is by card h, be it clear or read and clear, what a read of q on h gives
+-- right before each of them, and what it gives now, add up to that number too.
+pub total-of-reads : (r k : ℕ) → sizes-in-range r k ≡ true → (calls : List Call) → GenuineHistory r k calls → (h q : ℕ) → h < r → q < k
+    → let accepted = accepted-of (numbers calls (opened r k)) in
+    OneClears h q (map call-step calls) accepted
+    → reads-before h q calls (opened r k) + read-on (cards-after r k calls .words h) q .value ≡ increments-received h q (map call-step calls) accepted
+total-of-reads = laws.reads-total

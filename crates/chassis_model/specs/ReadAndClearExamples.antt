@@ -11,6 +11,7 @@ use Rattle.protocol.specs.Chassis.{count-message, present-entries, clear-messag
 use Rattle.protocol.specs.StoreLaws.{cleared-words, taken-words, shown}
 use Rattle.protocol.specs.Functions.{all-below, count-below}
 use Rattle.protocol.specs.Acceptance.{entry-well-formed, card-well-formed, all-entries, cards-known, increment-implausible, entry-plausible, plausible, tables-well-formed}
+use Rattle.protocol.specs.OneClears.{is-clear}
 use Rattle.protocol.specs.Increments.{increments-from, increments-received}
 use Rattle.wire.specs.Number.{number-at, bytes-of}
 use Rattle.wire.specs.Message as form
@@ -25,7 +26,7 @@ use Rattle.chassis_model.specs.Run.{Step, action-of, call-of, delivered,
 use Rattle.chassis_model.specs.Ledger.{ledger-action, ledger-step, accepted-of}
 use Rattle.chassis_model.specs.Driver as driver
 use Rattle.chassis_model.specs.Driver.{Call, opened, wrote, sent, called, number-of, value-of, after, numbers, values, cards-after, call-step}
-use Rattle.chassis_model.specs.ReadAndClearOf.{call-action, OnlyReadAndClears, is-read-and-clear, collected}
+use Rattle.chassis_model.specs.ReadAndClearOf.{call-action, OnlyReadAndClears, is-read-and-clear, collected, reads-before}
 use Rattle.chassis_model.specs.AloneExamples.{count, clear, read-and-clear, deliver, answers, value-read}
 
 -- what the longest of the lists takes is 188 bytes of card 1's log
@@ -85,5 +86,7 @@ pub history-adds-up :
     (answered ≡ 0 ∷ 0 ∷ 0 ∷ 0 ∷ 5 ∷ []) × (values history (opened 2 1) ≡ 0 ∷ 0 ∷ 1 ∷ 0 ∷ 0 ∷ [])
     × (collected 1 0 (map call-action history) answered (values history (opened 2 1)) ≡ 1) × (read-on (cards-after 2 1 history .words 1) 0 .value ≡ 1)
     × (increments-received 1 0 (map call-step history) (accepted-of answered) ≡ 2)
-unfolding put sum bits incremented cleared count-message present-entries clear-message read-value read-holders cleared-words taken-words shown number-at bytes-of header-bytes increment-bytes entry-bytes entries-bytes clear-bytes message-bytes header-in-range increment-in-range clear-in-range entry-in-range entries-in-range unused in-range increment-message entries-at called-length message-at reads front-length form.clear-message fresh-words sizes-in-range right replica-fits all-below count-below entry-well-formed card-well-formed row-well-formed tables-well-formed reading read-on send-with words-after count-on clear-on read-and-clear-on content all-entries cards-known increment-implausible entry-plausible plausible take-with call-of wrote sent called number-of value-of after numbers values ledger-action increments-from is-read-and-clear collected
-history-adds-up = (refl, refl, refl, refl, refl)
+    -- read right before the accepted one, it was 1 too; before the refused one nothing is taken
+    × (reads-before 1 0 history (opened 2 1) ≡ 1)
+unfolding put sum bits incremented cleared count-message present-entries clear-message read-value read-holders cleared-words taken-words shown number-at bytes-of header-bytes increment-bytes entry-bytes entries-bytes clear-bytes message-bytes header-in-range increment-in-range clear-in-range entry-in-range entries-in-range unused in-range increment-message entries-at called-length message-at reads front-length form.clear-message fresh-words sizes-in-range right replica-fits all-below count-below entry-well-formed card-well-formed row-well-formed tables-well-formed reading read-on send-with words-after count-on clear-on read-and-clear-on content all-entries cards-known increment-implausible entry-plausible plausible take-with call-of wrote sent called number-of value-of after numbers values ledger-action increments-from is-read-and-clear collected is-clear reads-before
+history-adds-up = (refl, refl, refl, refl, refl, refl)

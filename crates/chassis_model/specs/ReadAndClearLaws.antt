@@ -1,7 +1,7 @@
 -- LAWS. The total of a counter that one card clears, always by read and clear. In a run and in a driver's history the values answered are what the theory reads right
 -- before each clear, so the theory's total (`protocol`'s `ReadAndClearLaws`) is one on the answers.
 use Prim.Native.Nat.{ℕ, _+_, _<_}
-use mathlib.Core.Path.{_≡_, refl, sym, ap₂, _∙_}
+use mathlib.Core.Path.{_≡_, refl, sym, ap, ap₂, _∙_}
 use mathlib.Core.Bool.{true, false, cond, _&&_}
 use mathlib.Core.List.{List, [], _∷_, map}
 use lib.Dec.{eqb}
@@ -13,17 +13,20 @@ use Rattle.protocol.specs.Ledger.{empty-ledger, after-steps, ledger-value}
 use Rattle.protocol.specs.Chassis.{fresh-chassis, accepted, read-value}
 use Rattle.protocol.specs.Theorem.{value-is}
 use Rattle.protocol.specs.Increments.{increments-received}
-use Rattle.protocol.specs.ReadAndClearLaws.{ClearedBy, OneClears, is-clear, read-before, names-received, received-told}
+use Rattle.protocol.specs.OneClears.{ClearedBy, OneClears, is-clear}
+use Rattle.protocol.specs.ReadAndClearLaws.{read-before, names-received, received-told}
 use Rattle.replica_model.specs.Layout.{replica-length}
+use Rattle.replica_model.specs.declared.Reading.{Reading}
 use Rattle.replica_model.specs.Calls.{sizes-in-range, read-on}
 use Rattle.replica_model.specs.RowLaws.{sizes}
 use Rattle.chassis_model.specs.ListParts.{part}
 use Rattle.chassis_model.specs.Run.{Count, Clear, ReadAndClear, Action, Make, Deliver, Nothing, Step, action-of, step-on, answers-of, numbers-in, values-in, sizes-right, run-on}
-use Rattle.chassis_model.specs.Ledger.{ledger-action, ledger-step, was-accepted, accepted-of, ledger-of}
+use Rattle.chassis_model.specs.Ledger.{ledger-action, ledger-step, was-accepted, accepted-of, ledger-of, ledger-reading}
 use Rattle.chassis_model.specs.Answers.{value-asked}
 use Rattle.chassis_model.specs.Driver.{Call, make, take, opened, number-of, value-of, Genuine, numbers, values, cards-after, GenuineHistory, call-step, history-ledger}
-use Rattle.chassis_model.specs.ReadAndClearOf.{call-action, ClearsByReading, OnlyReadAndClears, is-read-and-clear, collected}
+use Rattle.chassis_model.specs.ReadAndClearOf.{call-action, reads-before, ClearsByReading, OnlyReadAndClears, is-read-and-clear, collected}
 use Rattle.chassis_model.specs.InStep.{CardsAt}
+use Rattle.chassis_model.specs.Reads.{read-matches}
 use Rattle.chassis_model.specs.Offers.{offer, offers-of, ledgers-told, TheoryRun, told}
 use Rattle.chassis_model.specs.TheoryReads as reads
 use Rattle.chassis_model.specs.Matches.{RunAt, run-at, run-cards}
@@ -116,6 +119,22 @@ history-sum h q (c ∷ cs) now (g, gs) (only, rest) =
     (rw (call-is c) (adds h q (driver-cards now) (call-action c) (number-of c (now .state)) (value-of c (now .state)) (rw (call-is c) at (here .1)) only (call-value now c)))
     (history-sum h q cs (driver-at (here .0)) gs rest)
 
+-- what a driver reads right before its clears is what the theory reads there
+module _ {r k : ℕ} (h q : ℕ) (hh : h < r) (hq : q < k) where
+  value-now : (now : DriverAt r k) → read-on (now .state .words h) q .value ≡ read-value r q (now .chassis .replica h)
+  unfolding ledger-reading
+  value-now now =
+      ap (λ (a : Reading). a .value) (read-matches (driver-cards now) h q hh hq)
+      ∙ sym (value-is r q (now .chassis) (now .ledgers q) (now .matches .cards .invariants q) h)
+
+  reads-sum : (cs : List Call) (now : DriverAt r k) → Genuine cs (now .state)
+      → reads-before h q cs (now .state) ≡ read-before r h q (history-offers cs (now .state)) (now .chassis)
+  unfolding reads-before numbers offers-of read-before
+  reads-sum [] now g = refl
+  reads-sum (c ∷ cs) now (g, gs) =
+      let here = call-matches now c g in
+      ap₂ _+_ (rw (here .1, value-now now)) (reads-sum cs (driver-at (here .0)) gs)
+
 -- ---- the total
 
 module _ {r k : ℕ} {steps : List ledger.Step} {numbers : List ℕ} {replicas : ℕ → List ℕ} (t : TheoryRun r k steps numbers replicas) (h q : ℕ) where
@@ -160,6 +179,12 @@ module _ (r k : ℕ) (right : sizes-in-range r k ≡ true) (calls : List Call) (
   history-total hh hq only =
       total-told (theory-history r k right calls genuine) h q hh hq (only-one call-action call-step call-is h q calls called only) _
       (history-sum h q calls (driver-at (opened-matches r k (sizes r k right))) genuine only)
+
+  pub reads-total : h < r → q < k → OneClears h q (map call-step calls) (accepted-of called)
+      → reads-before h q calls (opened r k) + read-on (cards-after r k calls .words h) q .value ≡ increments-received h q (map call-step calls) (accepted-of called)
+  reads-total hh hq one =
+      total-told (theory-history r k right calls genuine) h q hh hq one _
+      (reads-sum h q hh hq calls (driver-at (opened-matches r k (sizes r k right))) genuine)
 
   pub history-increments : increments-received h q (map call-step calls) (accepted-of called) ≡ length (history-ledger r k calls q .received h)
   history-increments = increments-named (theory-history r k right calls genuine) h q

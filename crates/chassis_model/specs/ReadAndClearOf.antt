@@ -5,10 +5,12 @@ use mathlib.Core.Path.{_≡_}
 use mathlib.Core.Bool.{Bool, false, cond, _&&_}
 use mathlib.Core.List.{List, [], _∷_}
 use lib.Dec.{eqb}
+use Rattle.protocol.specs.OneClears.{is-clear}
 use Rattle.wire.specs.Message.{message-at}
+use Rattle.replica_model.specs.Calls.{read-on}
 use Rattle.chassis_model.specs.Run.{Count, Clear, ReadAndClear, Action, Make, Deliver, Nothing}
 use Rattle.chassis_model.specs.Ledger.{was-accepted}
-use Rattle.chassis_model.specs.Driver.{Call, make, take}
+use Rattle.chassis_model.specs.Driver.{Call, make, take, Cards, called, number-of, call-step}
 
 -- what a driver's call asks for: a take is a delivery from the sender that the bytes name
 abbrev pub call-action : Call → Action
@@ -44,3 +46,10 @@ collected h q [] ns vs = 0
 collected h q (a ∷ rest) [] vs = 0
 collected h q (a ∷ rest) (n ∷ ns) [] = 0
 collected h q (a ∷ rest) (n ∷ ns) (v ∷ vs) = cond (was-accepted n && is-read-and-clear h q a) v 0 + collected h q rest ns vs
+
+-- ---- of a driver that reads: what a read of q on card h gives right before each of its accepted calls that clear q there, whichever call it is
+
+unfoldable pub reads-before : ℕ → ℕ → List Call → Cards → ℕ
+reads-before h q [] st = 0
+reads-before h q (c ∷ cs) st =
+    cond (was-accepted (number-of c st) && is-clear h q (call-step c)) (read-on (st .words h) q .value) 0 + reads-before h q cs (called c st)

@@ -14,8 +14,9 @@ pub mod Rows
 pub mod Acceptance
 pub mod Runs
 pub mod Store
--- One counter's own steps; increments received; amounts; deliveries in rounds; messages made and received; what was cleared.
+-- One counter's own steps; a counter that one card clears; increments received; amounts; deliveries in rounds; messages made and received; what was cleared.
 pub mod Alone
+pub mod OneClears
 pub mod Increments
 pub mod InARow
 pub mod AmountRows

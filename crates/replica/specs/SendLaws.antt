@@ -3,12 +3,12 @@
 use Prim.Native.Nat.{ℕ, suc, _+_, _-_, _≤_, _<_}
 use mathlib.Core.Path.{_≡_, refl, sym, ap, _∙_}
 use mathlib.Core.Logic.{_≢_}
-use mathlib.Core.Bool.{Bool, cond}
+use mathlib.Core.Bool.{Bool}
 use mathlib.Core.List.{List, [], _∷_, _++_}
 use native.Mathlib.Omega.{arith}
 use lib.ListN.{length, take, set, replicate, length-append}
 use lib.Seq.{take-append-seam, set-append-seam, append-snoc}
-use lib.Dec.{leb, eqb}
+use lib.Dec.{leb}
 use borrow.Author.Tests.{le-leb, lt-leb, ne-eqb}
 use Rattle.protocol.specs.Limits.{MAX, most-cards, short-output}
 use Rattle.protocol.specs.Checks.{Check, or-else, checked, first-failing}
@@ -22,10 +22,9 @@ use Rattle.wire.specs.declared.Message as wire
 use Rattle.wire.specs.Message as form
 use Rattle.wire.specs.Message.{clear-kind, message-bytes, no-entry, over}
 use Rattle.replica_model.specs.declared.Sent.{Sent}
-use Rattle.replica_model.specs.declared.Cleared.{Cleared}
 use Rattle.replica_model.specs.Layout.{cards, own-card, C-of, N-of, entry-of}
 use Rattle.replica_model.specs.Format.{format-1, on-wire, size-of}
-use Rattle.replica_model.specs.Calls.{reading, SendOutcome, making-checks, not-sent, sent-with, send-with, count-of, clear-of, clear-on, ClearedOutcome, with-value, read-and-clear-on, words-after}
+use Rattle.replica_model.specs.Calls.{SendOutcome, making-checks, not-sent, sent-with, send-with, count-of, clear-of, clear-on, with-value, with-value-read, read-and-clear-on, words-after}
 use Rattle.replica_model.specs.Senders.{Sending}
 use Rattle.replica_model.specs.AcceptedCalls.{sending-facts}
 use Rattle.replica_model.specs.PresentLaws.{present-few, present-below}
@@ -35,10 +34,6 @@ use Rattle.replica.specs.Effects.{Receives}
 -- a call that declines: "number, zeros"
 abbrev pub no-sent : ℕ → Sent
 no-sent number = record { number = number; sequence = 0; length = 0 }
-
--- a value beside what a call that sends answers
-abbrev pub beside : ℕ → Sent → Cleared
-beside value sent = record { number = sent .number; value = value; sequence = sent .sequence; length = sent .length }
 
 -- ---- the checks before a message is made, and the one behind
 
@@ -66,19 +61,15 @@ module _ (b : List ℕ) (q : ℕ) where
 
 -- ---- a clear with the value read before it
 
--- what the call makes of a clear's outcome
-abbrev pub valued : List ℕ → ℕ → SendOutcome → ClearedOutcome
-valued b q done = with-value (cond (eqb (done .answer .number) 0) (reading b q .value) 0) done
-
 module _ (b : List ℕ) (q : ℕ) (out : List ℕ) where
   pub read-and-clear-refused : first-failing (making-checks b q) ≢ 0
       → with-value 0 (not-sent (first-failing (making-checks b q)) b out) ≡ read-and-clear-on b q out
   unfolding read-and-clear-on clear-on
-  read-and-clear-refused some = rw (ne-eqb (first-failing (making-checks b q)) 0 some) at (ap (valued b q) (send-refused b q out (clear-of b q) some))
+  read-and-clear-refused some = rw (ne-eqb (first-failing (making-checks b q)) 0 some) at (ap (with-value-read b q) (send-refused b q out (clear-of b q) some))
 
-  pub read-and-clear-passed : first-failing (making-checks b q) ≡ 0 → valued b q (with-room b out (clear-of b q)) ≡ read-and-clear-on b q out
+  pub read-and-clear-passed : first-failing (making-checks b q) ≡ 0 → with-value-read b q (with-room b out (clear-of b q)) ≡ read-and-clear-on b q out
   unfolding read-and-clear-on clear-on
-  read-and-clear-passed none = ap (valued b q) (send-passed b q out (clear-of b q) none)
+  read-and-clear-passed none = ap (with-value-read b q) (send-passed b q out (clear-of b q) none)
 
 module _ (b : List ℕ) (r q : ℕ) (first : r ≡ cards b) (h : Sending b q) where
   pub row-inside : RowInside b r q

@@ -8,9 +8,9 @@ use replica_model::Sent;
 use wire::Message;
 ghost use mathlib.Core.Path.{_≡_};
 ghost use Rattle.replica_model.specs.Layout.{cards};
-ghost use Rattle.replica_model.specs.Calls.{SendOutcome, clear-of, clear-on, ClearedOutcome, read-and-clear-on};
+ghost use Rattle.replica_model.specs.Calls.{SendOutcome, clear-of, clear-on, ClearedOutcome, beside, with-value-read, read-and-clear-on};
 ghost use Rattle.replica_model.specs.Senders.{Sending};
-ghost use Rattle.replica.specs.SendLaws.{with-room, beside, valued};
+ghost use Rattle.replica.specs.SendLaws.{with-room};
 
 // A value beside what a call that sends answers.
 pub fn beside(value: u64, sent: Sent) -> Cleared
@@ -28,7 +28,7 @@ pub fn beside(value: u64, sent: Sent) -> Cleared
 // here and not in a function that returns it, which would copy it; the value is summed up on the way.
 fn send_clear(words: &mut [u64], r: usize, q: usize, out: &mut [u8]) -> Cleared
     requires { ⌜ (r ≡ cards (now words)) × Sending (now words) q ⌝ }
-    ensures { λ a. ⌜ _≡_ {A = ClearedOutcome} (record { answer = a; words = now (words .exit); out = now (out .exit) }) (valued (now (words .entry)) q (with-room (now (words .entry)) (now (out .entry)) (clear-of (now (words .entry)) q))) ⌝ }
+    ensures { λ a. ⌜ _≡_ {A = ClearedOutcome} (record { answer = a; words = now (words .exit); out = now (out .exit) }) (with-value-read (now (words .entry)) q (with-room (now (words .entry)) (now (out .entry)) (clear-of (now (words .entry)) q))) ⌝ }
 {
     let own = words::own_card(words);
     let sequence = words::messages_at(words, r, own) + 1;

@@ -145,17 +145,19 @@ pub record ClearedOutcome : Type 0 where
   pub words : List ℕ
   pub out : List ℕ
 
--- a value beside what a call that sends gives
+-- a value beside what a call that sends answers, and beside all that it gives
+abbrev pub beside : ℕ → Sent → Cleared
+beside value sent = record { number = sent .number; value = value; sequence = sent .sequence; length = sent .length }
+
 abbrev pub with-value : ℕ → SendOutcome → ClearedOutcome
-with-value value done = record {
-  answer = record { number = done .answer .number; value = value; sequence = done .answer .sequence; length = done .answer .length };
-  words = done .words;
-  out = done .out;
-}
+with-value value done = record { answer = beside value (done .answer); words = done .words; out = done .out }
 
 -- "The value is the one that read gives just before the clear."; a refusal is "its number with zeros"
+abbrev pub with-value-read : List ℕ → ℕ → SendOutcome → ClearedOutcome
+with-value-read b q done = with-value (cond (eqb (done .answer .number) 0) (reading b q .value) 0) done
+
 unfoldable pub read-and-clear-on : List ℕ → ℕ → List ℕ → ClearedOutcome
-read-and-clear-on b q out = let done = clear-on b q out in with-value (cond (eqb (done .answer .number) 0) (reading b q .value) 0) done
+read-and-clear-on b q out = with-value-read b q (clear-on b q out)
 
 -- ---- take: "1, 6, 3, 2, 7, 8, 9, 10"
 

@@ -20,13 +20,12 @@ pub fn random_lists(seed: u64, lists: u64, longest: u64) -> Tally {
     let mut tally = Tally::default();
     for case in 0..lists {
         let mut random = Random::case(seed, case);
-        let (cards, counters) = match random.below(20) {
+        let shape = match random.below(20) {
             0 => generate::shape(&mut random),
             1 => (random.between(1, MOST_CARDS as u64) as usize, random.between(1, 8) as usize),
             _ => (random.between(2, 4) as usize, random.between(2, 4) as usize),
         };
-        let (steps, log_bytes) = runs::list(&mut random, cards, counters, longest);
-        let list = List { cards, counters, log_bytes, steps };
+        let list = List::any(&mut random, shape, longest);
         list.check(&mut random, &|| format!("seed {seed} case {case}"), &mut tally);
     }
     tally
@@ -61,6 +60,16 @@ pub struct After {
 }
 
 impl List {
+    /// Of so many cards and counters.
+    pub(super) fn any(
+        random: &mut Random,
+        (cards, counters): (usize, usize),
+        longest: u64,
+    ) -> List {
+        let (steps, log_bytes) = runs::list(random, cards, counters, longest);
+        List { cards, counters, log_bytes, steps }
+    }
+
     fn of(&self, steps: Vec<Step>) -> List {
         List { steps, ..*self }
     }

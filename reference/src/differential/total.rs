@@ -8,7 +8,7 @@
 use std::collections::VecDeque;
 
 use super::alone::{After, List};
-use super::{generate, network, runs, Place, Tally, READ_AND_CLEAR};
+use super::{generate, network, Place, Tally, READ_AND_CLEAR};
 use crate::chassis::{Answer, Step};
 use crate::library;
 use crate::limits::*;
@@ -133,13 +133,12 @@ pub fn random_lists(seed: u64, lists: u64, longest: u64) -> Tally {
     let mut tally = Tally::default();
     for case in 0..lists {
         let mut random = Random::case(seed, case);
-        let (cards, counters) = match random.below(20) {
+        let shape = match random.below(20) {
             0 => generate::shape(&mut random),
             _ => (random.between(1, 4) as usize, random.between(1, 3) as usize),
         };
-        let (steps, log_bytes) = runs::list(&mut random, cards, counters, longest);
-        let mut list = List { cards, counters, log_bytes, steps };
-        let collector = Collector::any(&mut random, cards, counters);
+        let mut list = List::any(&mut random, shape, longest);
+        let collector = Collector::any(&mut random, list.cards, list.counters);
         let after = only_allowed(&mut random, &mut list, collector);
         note_clears(&list, &after, collector, &mut tally);
         let place = || format!("seed {seed} case {case}, {list:?}");

@@ -19,10 +19,10 @@ use Rattle.wire.specs.Message.{clear-message}
 use Rattle.wire.specs.EntriesLaws.{holding}
 use Rattle.replica_model.specs.Layout.{entry-of}
 use Rattle.replica_model.specs.PresentLaws.{entry-sent, absent-turn, present-turn, present-few}
-use Rattle.replica_model.specs.Calls.{reading}
+use Rattle.replica_model.specs.Calls.{reading, with-value-read}
 use Rattle.replica.specs.Sums.{sum-turn, sum-below}
 use Rattle.replica.specs.WordsLaws.{few-cards, head-inside, row-N}
-use Rattle.replica.specs.SendLaws.{with-room, valued, row-inside, own-below, own-numbers, sends-receives, too-short, was-sent, padded, padded-next, clear-made, MadeClear, made-clear}
+use Rattle.replica.specs.SendLaws.{with-room, row-inside, own-below, own-numbers, sends-receives, too-short, was-sent, padded, padded-next, clear-made, MadeClear, made-clear}
 use Rattle.replica.proofs.clearing.send_clear.Statement.{statement}
 use Rattle.replica.proofs.clearing.send_clear.Tie as tie
 
@@ -214,7 +214,7 @@ returns c =
     let b = now (start .args .words) in
     let out = now (start .args .out) in
     rw (c .beside .ensures, c .before .refused .ensures)
-    (ap (valued b (start .args .q))
+    (ap (with-value-read b (start .args .q))
     (too-short b out (clearing (start .args .q) (present-entries (start .args .r) (entry-of (start .args .r) b (start .args .q)))) (rw (long .length-of .ensures, clear after .length) at (c .before .before .if2 .taken))
     ∙ ap (with-room b out) (clear-made b (start .args .q) _ (start .pre .0))))
 
@@ -254,7 +254,7 @@ returns-2 c =
     let all : after .before .loop .j ≡ start .args .r = omega arith in
     let value : after .before .loop .value ≡ reading b (start .args .q) .value = rw (after .before .loop .inv .3, all, first) in
     rw value
-    (ap (valued b (start .args .q))
+    (ap (with-value-read b (start .args .q))
     (was-sent b out (clearing (start .args .q) (present-entries (start .args .r) (entry-of (start .args .r) b (start .args .q)))) _ _ _ _ _ (mine .own-card .ensures)
     (rw first at (seen .messages-at .ensures)) (long .length-of .ensures ∙ rw (clear after .length)) (else2 .if2 .left)
     (put .put-clear .ensures ∙ rw (made after)) (applied .apply-clear .ensures ∙ rw (clear after .entries))
