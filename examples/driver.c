@@ -2,7 +2,8 @@
  * A driver in one process: line cards 0 and 1, and the console as card 2. The
  * cards count drops on counter 0, the console reads, and in the evening takes
  * the day's figure and clears, in one call: a drop that came between a read and
- * a clear would be in no day's figure.
+ * a clear would be in no day's figure. A card gives the counter's register to
+ * another port when the counter is quiet there, not when its value is 0.
  *
  *   cc -std=c11 -Iinclude examples/driver.c -Ltarget/staticlib -lyelansub
  */
@@ -71,8 +72,9 @@ static void on_message(unsigned card, const struct packet *packet)
 static void show(unsigned card)
 {
     struct yelansub_reading reading = yelansub_read(replica[card], words, DROPS);
-    printf("card %u: %" PRIu64 " drops, holders %" PRIx64 "\n", card, reading.value,
-           reading.holders);
+    accepted("read", card, reading.number);
+    printf("card %u: %" PRIu64 " drops, holders %" PRIx64 "%s\n", card, reading.value,
+           reading.holders, reading.holders == 0 ? ", quiet" : "");
 }
 
 int main(void)
@@ -97,5 +99,10 @@ int main(void)
 
     on_message(0, &clear);
     show(0);                      /* the same two on the card that counted them */
+
+    on_message(1, &clear);
+    show(1);                      /* 0, but a drop that it cancels is under way: not quiet */
+    on_message(1, &first);
+    show(1);
     return 0;
 }

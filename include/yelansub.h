@@ -15,7 +15,9 @@
  * yelansub_read_and_clear, the values that it answered there plus what a read
  * on that card gives now are exactly as many as the increments of that counter
  * that the card has received, its own included. Refused clears, and clears of
- * other counters, do not matter for that.
+ * other counters, do not matter for that. Where a counter is quiet on a card
+ * (yelansub_read), no increment of it that the card has still to receive is
+ * cancelled there already, and none that it has received is still counted.
  * yelansub_take answers a message that its sender wrote with 0 if it is the
  * next of that sender, 8 if it was taken before, 9 if an earlier one is
  * missing, 7 on the sender itself, and nothing else. What was answered 0 or 8
@@ -130,6 +132,12 @@ struct yelansub_reading {
  *   1  the words are no replica (length, r, k or own card),
  *   3  counter is not below k,
  *   2  the counter's row is not well-formed: memory was damaged.
+ *
+ * The counter is quiet on this card when number is 0 and holders == 0. That is
+ * not value == 0: a value can be 0 while counts that are cleared here are still
+ * under way, and then holders is not 0. A count that is under way and not
+ * cleared leaves the counter quiet until it is taken. A refused read has
+ * holders == 0 too, and says nothing of the counter.
  */
 struct yelansub_reading yelansub_read(const uint64_t *words, size_t words_len, uint64_t counter);
 

@@ -129,6 +129,25 @@ impl Ledger {
         }
     }
 
+    /// The same names in the card's two sets.
+    pub fn has_equal_sets(&self, card: usize) -> bool {
+        let card = &self.cards[card];
+        card.received == card.cancelled
+    }
+
+    /// As many names in the one as in the other.
+    pub fn has_sets_of_one_size(&self, card: usize) -> bool {
+        let card = &self.cards[card];
+        card.received.len() == card.cancelled.len()
+    }
+
+    /// Whether some increment that a link has still to hand over to the card is cancelled there.
+    pub fn has_cancelled_ahead(&self, card: usize) -> bool {
+        let under_way = self.links.iter().flat_map(|links| &links[card]);
+        let mut increments = under_way.filter_map(|message| message.adds);
+        increments.any(|name| self.cards[card].cancelled.contains(&name))
+    }
+
     pub fn value(&self, card: usize) -> u64 {
         let card = &self.cards[card];
         card.received.difference(&card.cancelled).count() as u64

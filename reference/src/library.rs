@@ -6,7 +6,7 @@
 use core::mem::{align_of, offset_of, size_of};
 
 use crate::chassis::{Buffers, Step};
-use crate::limits::MOST_CARDS;
+use crate::limits::{MOST_CARDS, OK};
 use crate::message::Entry;
 
 #[repr(C)]
@@ -16,6 +16,14 @@ pub struct Reading {
     pub value: u64,
     pub holders: u64,
     pub holder_count: u64,
+}
+
+impl Reading {
+    /// Whether the counter is quiet on its card. A value of 0 is not enough: a count that is cleared
+    /// there may still be under way. Nor are the zeros of a refused read.
+    pub fn is_quiet(&self) -> bool {
+        self.number == OK && self.holders == 0
+    }
 }
 
 #[repr(C)]

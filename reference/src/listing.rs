@@ -40,7 +40,7 @@ fn lines(input: &[u8]) -> Option<String> {
     for (card, words) in words.chunks_exact(each).enumerate() {
         for counter in 0..counters {
             let reading = replica::read(words, counter as u64).ok()?;
-            let quiet = u8::from(reading.value == 0);
+            let quiet = u8::from(reading.holders == 0);
             write!(text, "{card},{counter},{},{},{quiet}\r\n", reading.value, reading.holders)
                 .ok()?;
         }

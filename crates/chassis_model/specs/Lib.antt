@@ -29,6 +29,8 @@ pub mod PendingClaims
 pub mod CaughtUpClaims
 pub mod ClearClaims
 pub mod ClearedExamples
+pub mod QuietClaims
+pub mod QuietExamples
 -- LAWS. Lists in parts, logs of messages.
 pub mod ListPartsLaws
 pub mod LogLaws
@@ -76,3 +78,4 @@ pub mod DriverTheorem
 pub mod DriverAlone
 pub mod ReadAndClearLaws
 pub mod ClearedLaws
+pub mod QuietLaws

@@ -1,4 +1,4 @@
--- CLAIMS. The listing of SPECIFICATION 9, computed on the definition, and inputs that are refused.
+-- CLAIMS. The listings of SPECIFICATION 9, computed on the definition, and inputs that are refused.
 use Prim.Native.Nat.{ℕ}
 use mathlib.Core.Path.{_≡_, refl}
 use mathlib.Core.List.{List, [], _∷_, _++_}
@@ -56,3 +56,25 @@ listed = header ++ 48 ∷ 44 ∷ 48 ∷ 44 ∷ 50 ∷ 44 ∷ 49 ∷ 44 ∷ 48 �
 pub document-listing : (listing-of (document-input 2) ≡ listed) × (listing-of (document-input 4) ≡ listed)
 unfolding document-input put sum bits incremented cleared count-message present-entries clear-message read-value read-holders cleared-words taken-words shown number-at bytes-of header-bytes increment-bytes entry-bytes entries-bytes clear-bytes message-bytes header-in-range increment-in-range clear-in-range entry-in-range entries-in-range unused in-range increment-message entries-at called-length message-at reads front-length form.clear-message fresh-words sizes-in-range right replica-fits all-below count-below entry-well-formed card-well-formed row-well-formed tables-well-formed reading read-on send-with words-after count-on clear-on read-and-clear-on content all-entries cards-known increment-implausible entry-plausible plausible take-with part put-part waiting-part end-of made delivered action-of call-of acted state-after answers-of fresh-replicas sizes-right run-on steps-at run-bytes-on digits line card-lines lines run-words input-right listing-of
 document-listing = (refl, refl)
+
+-- "For r = 3, k = 1 and steps (1,0,0) (3,1,0) (2,1,0) (3,2,1)", and then any steps
+pub overtaken-input : List ℕ → List ℕ
+overtaken-input more =
+    0 ∷ 0 ∷ 0 ∷ 3 ∷ 0 ∷ 0 ∷ 0 ∷ 1
+    ∷ 0 ∷ 0 ∷ 0 ∷ 1 ∷ 0 ∷ 0 ∷ 0 ∷ 0 ∷ 0 ∷ 0 ∷ 0 ∷ 0
+    ∷ 0 ∷ 0 ∷ 0 ∷ 3 ∷ 0 ∷ 0 ∷ 0 ∷ 1 ∷ 0 ∷ 0 ∷ 0 ∷ 0
+    ∷ 0 ∷ 0 ∷ 0 ∷ 2 ∷ 0 ∷ 0 ∷ 0 ∷ 1 ∷ 0 ∷ 0 ∷ 0 ∷ 0
+    ∷ 0 ∷ 0 ∷ 0 ∷ 3 ∷ 0 ∷ 0 ∷ 0 ∷ 2 ∷ 0 ∷ 0 ∷ 0 ∷ 1 ∷ more
+
+-- "0,0,1,1,0", "1,0,0,0,1", and card 2's line: its holders and whether it is quiet, each a digit
+abbrev pub overtaken : ℕ → ℕ → List ℕ
+overtaken holders quiet =
+    header ++ 48 ∷ 44 ∷ 48 ∷ 44 ∷ 49 ∷ 44 ∷ 49 ∷ 44 ∷ 48 ∷ 13 ∷ 10 ∷ 49 ∷ 44 ∷ 48 ∷ 44 ∷ 48 ∷ 44 ∷ 48 ∷ 44 ∷ 49 ∷ 13 ∷ 10
+    ∷ 50 ∷ 44 ∷ 48 ∷ 44 ∷ 48 ∷ 44 ∷ holders ∷ 44 ∷ quiet ∷ 13 ∷ 10 ∷ []
+
+-- the value is 0 and a cancelled count is under way, "2,0,0,1,0"; after (3,2,0), "2,0,0,0,1"
+pub quiet-column :
+    (listing-of (overtaken-input []) ≡ overtaken 49 48)
+    × (listing-of (overtaken-input (0 ∷ 0 ∷ 0 ∷ 3 ∷ 0 ∷ 0 ∷ 0 ∷ 2 ∷ 0 ∷ 0 ∷ 0 ∷ 0 ∷ [])) ≡ overtaken 48 49)
+unfolding overtaken-input put sum bits incremented cleared count-message present-entries clear-message read-value read-holders cleared-words taken-words shown number-at bytes-of header-bytes increment-bytes entry-bytes entries-bytes clear-bytes message-bytes header-in-range increment-in-range clear-in-range entry-in-range entries-in-range unused in-range increment-message entries-at called-length message-at reads front-length form.clear-message fresh-words sizes-in-range right replica-fits all-below count-below entry-well-formed card-well-formed row-well-formed tables-well-formed reading read-on send-with words-after count-on clear-on read-and-clear-on content all-entries cards-known increment-implausible entry-plausible plausible take-with part put-part waiting-part end-of made delivered action-of call-of acted state-after answers-of fresh-replicas sizes-right run-on steps-at run-bytes-on digits line card-lines lines run-words input-right listing-of
+quiet-column = (refl, refl)

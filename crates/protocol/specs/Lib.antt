@@ -25,6 +25,7 @@ pub mod RoundRobin
 pub mod Pending
 pub mod History
 pub mod Cleared
+pub mod Quiet
 -- CLAIMS
 pub mod Claims
 pub mod Examples
@@ -99,6 +100,8 @@ pub mod HistoryLaws
 pub mod CaughtUpLaws
 -- What is cancelled was seen by a card that cleared.
 pub mod ClearedLaws
+-- When a card has no holding cards.
+pub mod QuietLaws
 -- Replicas kept in words.
 pub mod StoreLaws
 -- What a card asks before it accepts.

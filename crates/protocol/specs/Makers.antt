@@ -44,15 +44,19 @@ module _ (q : ℕ) (notes : ℕ → List Note) (v : (j : ℕ) → ValidNotes q j
   row-proper : (j : ℕ) → Proper (row j)
   row-proper j = chain-proper q j (notes j) (v j) (row j) (k .pairs j .chain)
 
-  -- the ledger's holders are the replica's
-  pub holds-is : (j : ℕ) → holds i j l ≡ present (b .entry q j)
+  -- a card holds exactly if it has not as many names cancelled as received
+  pub holds-apart : (j : ℕ) → holds i j l ≡ not (eqb (seen notes b j .names) (row j .names))
   unfolding holds
-  holds-is j =
+  holds-apart j =
       rw (
         beyond-is (l .received i) (l .cancelled i) _ _ (k .received-is) (k .cancelled-is) j,
         beyond-is (l .cancelled i) (l .received i) _ _ (k .cancelled-is) (k .received-is) j,
       )
-      (one-of-two (seen notes b j .names) (row j .names) ∙ sym (reads-holder (seen notes b j) (row j) (b .entry q j) (seen-proper j) (row-proper j) (k .pairs j .entry)))
+      (one-of-two (seen notes b j .names) (row j .names))
+
+  -- the ledger's holders are the replica's
+  pub holds-is : (j : ℕ) → holds i j l ≡ present (b .entry q j)
+  holds-is j = holds-apart j ∙ sym (reads-holder (seen notes b j) (row j) (b .entry q j) (seen-proper j) (row-proper j) (k .pairs j .entry))
 
   -- ---- a count
 

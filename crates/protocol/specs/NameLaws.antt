@@ -219,6 +219,17 @@ unfolding tally
 tally-none p [] h = refl
 tally-none p (n ∷ s) h = rw (h n (has-first n s (n .card) (n .ordinal) refl refl), tally-none p s (λ m c. h m (has-more n s m c)))
 
+-- where none passes
+pub tally-zero : (p : Name → Bool) (s : List Name) → tally p s ≡ 0 → (j o : ℕ) → has s (name j o) ≡ true → p (name j o) ≡ false
+unfolding tally has
+tally-zero p [] z j o h = absurd (false≢true h)
+tally-zero p (m ∷ s) z j o h =
+    by-test (p m)
+    (λ e. absurd (let some : 1 + tally p s ≡ 0 = rw e at z in omega arith))
+    (λ e.
+    let none : 0 + tally p s ≡ 0 = rw e at z in
+    found m s j o h (λ c d. let same : m ≡ name j o = ap₂ name c d in rw (← same) e) (tally-zero p s (omega arith) j o))
+
 -- Card j's names after the b-th, w of them, join a set that has none of them: if each passes the test, the number rises by w.
 pub tally-new : (p : Name → Bool) (w b j : ℕ) (s : List Name) → latest j s ≤ b → ((o : ℕ) → b < o → p (name j o) ≡ true)
     → tally p (join (names-after j b w) s) ≡ tally p s + w

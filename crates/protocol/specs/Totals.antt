@@ -1,13 +1,15 @@
--- LAWS. Sums of numbers, and lists that are tested and summed up.
-use Prim.Native.Nat.{ℕ, zero, suc, _+_, _≤_, _<_}
+-- LAWS. Sums of numbers, masks that are 0 and that are not, and lists that are tested and summed up.
+use Prim.Native.Nat.{ℕ, zero, suc, _+_, _^_, _≤_, _<_}
 use mathlib.Core.Path.{_≡_, refl, sym, ap, _∙_}
-use mathlib.Core.Bool.{Bool, true, cond}
+use mathlib.Core.Logic.{_↔_}
+use mathlib.Core.Bool.{Bool, true, false, cond}
 use mathlib.Core.List.{List, [], _∷_}
+use native.Mathlib.Nat.{pow-suc}
 use native.Mathlib.Omega.{arith}
-use lib.Dec.{eqb, ltb}
+use lib.Dec.{eqb, ltb, lit<}
 use borrow.Author.Tests.{lt-ltb, le-ltb, eq-eqb, ne-eqb}
 use Rattle.protocol.specs.Cases.{by-test, by-le, by-place, and-left, and-right}
-use Rattle.protocol.specs.Tables.{put, put-same, put-other, sum, sum-cong, sum-plus, sum-one}
+use Rattle.protocol.specs.Tables.{put, put-same, put-other, sum, bits, sum-cong, sum-plus, sum-zero, sum-one}
 use Rattle.protocol.specs.Names.{Name, has}
 use Rattle.protocol.specs.Joins.{has-none, first-or-rest}
 use Rattle.protocol.specs.History.{some-of, all-of, total}
@@ -63,6 +65,32 @@ sum-next r N g s l =
     (λ e. rw (e, put-same s (suc (N s)) N, eq-eqb s s refl) (sum-suc (N s) (g s)))
     (λ d. rw (put-other s (suc (N s)) N j d, ne-eqb j s d) (omega arith))) in
     omega arith
+
+-- ---- masks
+
+some-power : (j : ℕ) → 0 < 2 ^ j
+some-power zero = lit< tt
+some-power (suc j) = omega (arith, pow-suc 2 j, some-power j)
+
+-- a mask is 0 exactly if no bit is one
+pub bits-zero : (n : ℕ) (f : ℕ → Bool) → (bits n f ≡ 0) ↔ ((j : ℕ) → j < n → f j ≡ false)
+unfolding bits
+bits-zero n f = (
+  λ none j l.
+      by-test (f j)
+      (λ e.
+      let part : 2 ^ j ≤ bits n f = rw e at (sum-at-least n (λ j. cond (f j) (2 ^ j) 0) j l) in
+      absurd (omega (arith, some-power j)))
+      (λ e. e),
+  λ none. sum-zero n (λ j. cond (f j) (2 ^ j) 0) (λ j l. rw (none j l)),
+)
+
+-- one that is not 0 has such a bit
+pub bits-some {ℓ} : {P : Type ℓ} (n : ℕ) (f : ℕ → Bool) → (bits n f ≡ 0 → ⊥) → ((j : ℕ) → j < n → f j ≡ true → P) → P
+unfolding bits
+bits-some n f some here =
+    sum-some n (λ j. cond (f j) (2 ^ j) 0) (omega arith)
+    (λ j l h. by-test (f j) (here j l) (λ e. absurd (let z : cond (f j) (2 ^ j) 0 ≡ 0 = rw e in omega arith)))
 
 -- ---- lists that are tested
 

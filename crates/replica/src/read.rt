@@ -80,9 +80,10 @@ pub fn read(words: &[u64], counter: u64) -> Reading
     refused(protocol::BAD_ROW)
 }
 
-// Ruled out: a counter with a value called quiet (must-fail/quiet_inverted of crate listing), quiet by the holders.
+// Ruled out: quiet by a value of 0, and quiet by a refused read's zeros (must-fail/quiet_as_value_0 and quiet_though_refused of crate
+// replica_model).
 pub fn is_quiet(a: Reading) -> bool
     ensures { λ quiet. ⌜ quiet ≡ is-quiet a ⌝ }
 {
-    a.value == 0
+    (a.number == 0) & (a.holders == 0)
 }

@@ -78,9 +78,9 @@ reading b q = record {
   «holder_count» = holders b q;
 }
 
--- "A counter is quiet on a card when its value is 0"
+-- "A counter is quiet on a card when a read of it is accepted and gives no holders."
 abbrev pub is-quiet : Reading → Bool
-is-quiet a = eqb (a .value) 0
+is-quiet a = eqb (a .number) 0 && eqb (a .holders) 0
 
 unfoldable pub read-on : List ℕ → ℕ → Reading
 read-on b q = checked no-reading (read-checks b q) (reading b q)

@@ -9,6 +9,7 @@ use lib.ListN.{length}
 use Rattle.protocol.specs.Limits.{MAX, most-cards, most-counters, bad-replica, unreadable}
 use Rattle.protocol.specs.Checks.{or-else, AllPass}
 use Rattle.protocol.specs.declared.ClearEntry.{ClearEntry}
+use Rattle.protocol.specs.Entry.{absent}
 use Rattle.protocol.specs.Rows.{WellFormedRow}
 use Rattle.protocol.specs.Chassis.{Message, increment, clearing, taken, counter-of, units-of}
 use Rattle.protocol.specs.Store.{Shows}
@@ -36,6 +37,10 @@ pub record Right (b : List ℕ) : Type 0 where
 -- counter q's row in the words
 abbrev pub RowOf : List ℕ → ℕ → Type 0
 RowOf b q = WellFormedRow MAX (cards b) (own-card b) (C-of b) (N-of (cards b) b) (entry-of (cards b) b q)
+
+-- "the counter's r entries are all zeros"; C and N are not part of that
+abbrev pub AllZeros : List ℕ → ℕ → Type 0
+AllZeros b q = (j : ℕ) → j < cards b → entry-of (cards b) b q j ≡ absent
 
 -- bytes that pass every check of take before the sequence is looked at: 1, 6, 3, 2 and 7
 abbrev pub Addressed : List ℕ → List ℕ → Type 0

@@ -15,11 +15,12 @@ use Rattle.protocol.specs.Checks.{Decided}
 use Rattle.wire.specs.Message as form
 use Rattle.wire.specs.Message.{increment-message, message-at, message-bytes, over, increment-length, clear-length}
 use Rattle.replica_model.specs.Layout.{cards, counters, own-card, replica-length, N-of, entry-of, fresh-words}
-use Rattle.replica_model.specs.Calls.{right, row-well-formed, open-on, no-reading, reading, read-on, not-sent, count-on, clear-on, with-value, read-and-clear-on, not-taken, take-on, open-checks, read-checks, take-checks, holders, count-of, clear-of, sent-with, taken-with, send-checks}
-use Rattle.replica_model.specs.ClaimTerms.{Right, RowOf, sent-as, Performed, OnlyMoves, Keeps, Isolates, Writable, Addressed, Sizes}
+use Rattle.replica_model.specs.Calls.{right, row-well-formed, open-on, no-reading, reading, is-quiet, read-on, not-sent, count-on, clear-on, with-value, read-and-clear-on, not-taken, take-on, open-checks, read-checks, take-checks, holders, count-of, clear-of, sent-with, taken-with, send-checks}
+use Rattle.replica_model.specs.ClaimTerms.{Right, RowOf, AllZeros, sent-as, Performed, OnlyMoves, Keeps, Isolates, Writable, Addressed, Sizes}
 use Rattle.replica_model.specs.RowLaws.{right-facts, right-from, row-facts, row-from}
 use Rattle.replica_model.specs.PresentLaws.{present-length}
 use Rattle.replica_model.specs.CallsLaws.{open-decided, read-decided, count-decided, clear-decided, read-and-clear-decided, take-decided}
+use Rattle.replica_model.specs.QuietLaws.{all-zeros, reads-zeros}
 use Rattle.replica_model.specs.FreshReplica.{fresh-right, fresh-row, sizes-opened, fresh-read, fresh-count, fresh-clear, fresh-take}
 use Rattle.replica_model.specs.Senders.{count-writable, clear-writable}
 use Rattle.replica_model.specs.SequenceLaws.{again-refused, old-refused, early-refused}
@@ -240,6 +241,18 @@ read-and-clear-exact = read-and-clear-decided
 pub read-and-clear-isolates : (b : List ℕ) (q : ℕ) (out : List ℕ) → Isolates b q (read-and-clear-on b q out .words)
 unfolding read-and-clear-on
 read-and-clear-isolates = clear-isolates
+
+-- ---- QUIET
+
+-- A well-formed row is quiet exactly when the counter's r entries are all zeros.
+pub quiet-is-all-zeros : (b : List ℕ) (q : ℕ) → right b ≡ true → q < counters b → row-well-formed b q ≡ true
+    → (is-quiet (read-on b q) ≡ true) ↔ AllZeros b q
+quiet-is-all-zeros = all-zeros
+
+-- For all words and numbers, a counter is quiet exactly when the four numbers that read gives are 0: a refused read is not quiet, and a quiet counter's value is 0.
+pub quiet-reads-zeros : (b : List ℕ) (q : ℕ)
+    → (is-quiet (read-on b q) ≡ true) ↔ (read-on b q ≡ record { number = 0; value = 0; holders = 0; «holder_count» = 0 })
+quiet-reads-zeros = reads-zeros
 
 -- ---- ORDER AND REPEATS
 

@@ -1,8 +1,8 @@
 -- CLAIMS. The scenarios of a single card (SPECIFICATION 10.1), computed on the calls' definitions.
 use Prim.Native.Nat.{ℕ}
 use mathlib.Core.Path.{_≡_, refl}
-use mathlib.Core.List.{List}
-use mathlib.Core.Bool.{Bool, true, _&&_}
+use mathlib.Core.List.{List, [], _∷_}
+use mathlib.Core.Bool.{Bool, true, not, _&&_}
 use lib.ListN.{length, replicate}
 use lib.Dec.{eqb}
 use Rattle.protocol.specs.Tables.{put, sum, bits}
@@ -15,7 +15,7 @@ use Rattle.wire.specs.Number.{number-at, bytes-of}
 use Rattle.wire.specs.Message as form
 use Rattle.wire.specs.Message.{header-bytes, increment-bytes, entry-bytes, entries-bytes, clear-bytes, message-bytes, header-in-range, increment-in-range, clear-in-range, entry-in-range, entries-in-range, unused, in-range, increment-message, entries-at, called-length, message-at, reads}
 use Rattle.replica_model.specs.Layout.{replica-length, C-of, N-of, entry-of, fresh-words}
-use Rattle.replica_model.specs.Calls.{replica-fits, words-after, send-with, take-with, sizes-in-range, right, row-well-formed, open-on, reading, read-on, count-on, clear-on, read-and-clear-on, take-on}
+use Rattle.replica_model.specs.Calls.{replica-fits, words-after, send-with, take-with, sizes-in-range, right, row-well-formed, open-on, reading, is-quiet, read-on, count-on, clear-on, read-and-clear-on, take-on}
 use Rattle.replica_model.specs.Format.{content}
 
 room : ℕ → List ℕ
@@ -80,9 +80,22 @@ count-count-read-and-clear =
     eqb (done .answer .number) 0 && eqb (done .answer .value) 2 && eqb (done .answer .sequence) 3 && eqb (done .answer .length) 48 && eqb (read-on (done .words) 0 .value) 0
     && eqb (short .answer .number) 5 && eqb (short .answer .value) 0
 
+-- A fresh counter is quiet. Card 2 of three takes card 1's clear before card 0's count that it cancels: the value is 0 and card 0 holds, so it is not quiet, though
+-- its own entry is absent; when the count has come it is. A count of its own ends that. The read of a counter that is not there is refused and not quiet.
+value-0-and-quiet : Bool
+value-0-and-quiet =
+    let fresh = fresh-words 3 1 2 in
+    let b = take-on fresh (message-bytes (form.clear-message 1 1 0 (record { card = 0; p = 1; c = 1 } ∷ []))) .words in
+    let c = take-on b (message-bytes (increment-message 0 1 0 1 1)) .words in
+    let d = count-on c 0 (room 36) .words in
+    is-quiet (read-on fresh 0)
+    && eqb (read-on b 0 .value) 0 && eqb (read-on b 0 .holders) 1 && not (is-quiet (read-on b 0))
+    && is-quiet (read-on c 0)
+    && not (is-quiet (read-on d 0)) && not (is-quiet (read-on c 1))
+
 pub all-examples : Bool
-all-examples = clear-on-fresh && sequences && output-lengths && counter-limits && third-count && count-clear-count && count-count-read-and-clear
+all-examples = clear-on-fresh && sequences && output-lengths && counter-limits && third-count && count-clear-count && count-count-read-and-clear && value-0-and-quiet
 
 pub examples-hold : all-examples ≡ true
-unfolding all-examples clear-on-fresh sequences output-lengths counter-limits third-count count-clear-count count-count-read-and-clear answer-to room sizes-in-range right replica-fits all-below count-below entry-well-formed card-well-formed row-well-formed tables-well-formed open-on reading read-on send-with words-after count-on clear-on read-and-clear-on content all-entries cards-known increment-implausible entry-plausible plausible take-with fresh-words header-bytes increment-bytes entry-bytes entries-bytes clear-bytes message-bytes header-in-range increment-in-range clear-in-range entry-in-range entries-in-range unused in-range increment-message entries-at called-length message-at reads number-at bytes-of cleared-words taken-words shown count-message present-entries clear-message read-value read-holders put sum bits incremented cleared form.clear-message
+unfolding all-examples clear-on-fresh sequences output-lengths counter-limits third-count count-clear-count count-count-read-and-clear value-0-and-quiet answer-to room sizes-in-range right replica-fits all-below count-below entry-well-formed card-well-formed row-well-formed tables-well-formed open-on reading read-on send-with words-after count-on clear-on read-and-clear-on content all-entries cards-known increment-implausible entry-plausible plausible take-with fresh-words header-bytes increment-bytes entry-bytes entries-bytes clear-bytes message-bytes header-in-range increment-in-range clear-in-range entry-in-range entries-in-range unused in-range increment-message entries-at called-length message-at reads number-at bytes-of cleared-words taken-words shown count-message present-entries clear-message read-value read-holders put sum bits incremented cleared form.clear-message
 examples-hold = refl

@@ -10,6 +10,7 @@ pub mod RowLaws
 pub mod FormatLaws
 pub mod PresentLaws
 pub mod CallsLaws
+pub mod QuietLaws
 pub mod WellFormedKept
 pub mod Performed
 pub mod FreshReplica

@@ -1,12 +1,13 @@
 //! Random calls, messages, logs and runs against the library for as long as asked, then deeper
 //! exhaustive lists: `cargo run --release --offline --bin soak -- [MINUTES] [FIRST_SEED]`.
 //! One series alone, as long as asked: `-- network [CALLS] [SEED]`, `-- alone [LISTS] [SEED]`,
-//! `-- total [LISTS] [SEED]`.
+//! `-- total [LISTS] [SEED]`, `-- quiet [LISTS] [SEED]`.
 //! Each round prints its seed; a difference panics with seed and case.
 
 use std::time::{Duration, Instant};
 
-use yelansub_reference::differential::{alone, calls, logs, messages, network, runs, total, Tally};
+use yelansub_reference::differential::Tally;
+use yelansub_reference::differential::{alone, calls, logs, messages, network, quiet, runs, total};
 
 /// Calls of histories for each list, which take about as long.
 const CALLS_A_LIST: u64 = 10;
@@ -35,6 +36,11 @@ fn main() {
             report(total::random_lists(seed, lists, 100), |t| total::require_all(t, lists));
             report(total::histories(seed, CALLS_A_LIST * lists), total::require_histories);
         }
+        Some("quiet") => {
+            let (lists, seed) = (number(1, 100_000), number(2, 1));
+            println!("{lists} lists from seed {seed}");
+            report(quiet::random_lists(seed, lists, 100), |t| quiet::require_all(t, lists));
+        }
         _ => every_series(number(0, 10), number(1, 1_000_000)),
     }
 }
@@ -57,6 +63,7 @@ fn every_series(minutes: u64, first: u64) {
         report(network::histories(seed, 200_000), network::require_all);
         report(alone::random_lists(seed, 10_000, 100), |t| alone::require_all(t, 10_000));
         report(total::random_lists(seed, 10_000, 100), |t| total::require_all(t, 10_000));
+        report(quiet::random_lists(seed, 10_000, 100), |t| quiet::require_all(t, 10_000));
         report(total::histories(seed, 100_000), total::require_histories);
         if Instant::now() > until {
             break;

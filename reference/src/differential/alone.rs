@@ -3,6 +3,7 @@
 
 use super::{generate, runs, Place, Tally};
 use crate::chassis::{Answer, Buffers, Step};
+use crate::ledger::Ledger;
 use crate::library::{self, Reading};
 use crate::limits::*;
 use crate::message::{self, Body, Message};
@@ -18,17 +19,33 @@ const MIXED: u64 = 2;
 /// `lists` lists of up to `longest` steps, every counter of each.
 pub fn random_lists(seed: u64, lists: u64, longest: u64) -> Tally {
     let mut tally = Tally::default();
-    for case in 0..lists {
-        let mut random = Random::case(seed, case);
-        let shape = match random.below(20) {
-            0 => generate::shape(&mut random),
-            1 => (random.between(1, MOST_CARDS as u64) as usize, random.between(1, 8) as usize),
-            _ => (random.between(2, 4) as usize, random.between(2, 4) as usize),
-        };
-        let list = List::any(&mut random, shape, longest);
+    let usual = |random: &mut Random| match random.below(20) {
+        0 => (random.between(1, MOST_CARDS as u64) as usize, random.between(1, 8) as usize),
+        _ => (random.between(2, 4) as usize, random.between(2, 4) as usize),
+    };
+    for (case, mut random, list) in series(seed, lists, longest, usual) {
         list.check(&mut random, &|| format!("seed {seed} case {case}"), &mut tally);
     }
     tally
+}
+
+/// `lists` lists of up to `longest` steps, each with its case and what goes on at random from there.
+/// One in twenty is of any number of cards and counters, the others as `usual` says.
+pub(super) fn series(
+    seed: u64,
+    lists: u64,
+    longest: u64,
+    usual: impl Fn(&mut Random) -> (usize, usize),
+) -> impl Iterator<Item = (u64, Random, List)> {
+    (0..lists).map(move |case| {
+        let mut random = Random::case(seed, case);
+        let (cards, counters) = match random.below(20) {
+            0 => generate::shape(&mut random),
+            _ => usual(&mut random),
+        };
+        let (steps, log_bytes) = runs::list(&mut random, cards, counters, longest);
+        (case, random, List { cards, counters, log_bytes, steps })
+    })
 }
 
 /// Panics unless enough of the series was worth something.
@@ -60,16 +77,6 @@ pub struct After {
 }
 
 impl List {
-    /// Of so many cards and counters.
-    pub(super) fn any(
-        random: &mut Random,
-        (cards, counters): (usize, usize),
-        longest: u64,
-    ) -> List {
-        let (steps, log_bytes) = runs::list(random, cards, counters, longest);
-        List { cards, counters, log_bytes, steps }
-    }
-
     fn of(&self, steps: Vec<Step>) -> List {
         List { steps, ..*self }
     }
@@ -95,6 +102,17 @@ impl List {
     pub fn replica<'a>(&self, after: &'a After, card: usize) -> &'a [u64] {
         let each = replica_words(self.cards, self.counters);
         &after.words[card * each..][..each]
+    }
+
+    /// The counter's ledger, fed the steps and which of them the run accepted.
+    pub fn ledger(&self, after: &After, counter: usize) -> Ledger {
+        let mut ledger = Ledger::new(self.cards, counter);
+        for (step, [number, _]) in self.steps.iter().zip(&after.answers) {
+            if let Err(trouble) = ledger.feed(*step, *number == OK) {
+                panic!("{trouble}: {self:?}");
+            }
+        }
+        ledger
     }
 
     /// Every card's read of the counter.

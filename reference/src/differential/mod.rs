@@ -7,6 +7,7 @@ pub mod generate;
 pub mod logs;
 pub mod messages;
 pub mod network;
+pub mod quiet;
 pub mod runs;
 pub mod total;
 
@@ -93,7 +94,9 @@ impl<T: Copy + From<u8>> Guarded<T> {
     }
 }
 
-/// A read of every counter of the card is accepted and gives the ledger's value and holders.
+/// A read of every counter of the card is accepted and gives the ledger's value and holders. The
+/// counter is quiet exactly when the ledger's two sets of the card are equal: nothing received
+/// counts there, and nothing that is still to come is cancelled there.
 fn against_ledgers(ledgers: &[Ledger], card: usize, words: &[u64], place: Place) {
     for (counter, ledger) in ledgers.iter().enumerate() {
         let holders = ledger.holders(card);
@@ -105,6 +108,9 @@ fn against_ledgers(ledgers: &[Ledger], card: usize, words: &[u64], place: Place)
         };
         let read = library::read(words, counter as u64);
         assert_eq!(read, due, "card {card} counter {counter}: {}", place());
+        let (equal, ahead) = (ledger.has_equal_sets(card), ledger.has_cancelled_ahead(card));
+        let quiet = [equal, read.value == 0 && !ahead];
+        assert_eq!(quiet, [read.is_quiet(); 2], "card {card} counter {counter}: {}", place());
     }
 }
 

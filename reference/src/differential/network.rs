@@ -73,8 +73,8 @@ pub fn require_all(tally: &Tally) {
     tally.require("entries", &(0..=MOST_CARDS as u64).collect::<Vec<_>>());
     tally.require("start", &[NO_START, FIRST_START, NEW_START]);
     for holders in 0..3 {
-        // Quiet and held: a clear has come before all that it clears.
-        assert!(tally.times("quiet", holders) > 0, "never quiet with {holders} holders");
+        // Held with a value of 0, so not quiet: a clear has come before all that it clears.
+        assert!(tally.times("zero", holders) > 0, "never 0 with {holders} holders");
         assert!(tally.times("counting", holders + 1) > 0, "never {} holders", holders + 1);
     }
 }
@@ -517,7 +517,7 @@ impl History<'_> {
             against_ledgers(&self.ledgers, card, words.get(), &|| self.place());
             for counter in 0..self.counters {
                 let read = library::read(self.theirs.words[card].get(), counter as u64);
-                let name = if read.value == 0 { "quiet" } else { "counting" };
+                let name = if read.value == 0 { "zero" } else { "counting" };
                 self.tally.note(name, read.holder_count);
             }
         }

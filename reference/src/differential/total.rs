@@ -7,8 +7,8 @@
 
 use std::collections::VecDeque;
 
-use super::alone::{After, List};
-use super::{generate, network, Place, Tally, READ_AND_CLEAR};
+use super::alone::{series, After, List};
+use super::{network, Place, Tally, READ_AND_CLEAR};
 use crate::chassis::{Answer, Step};
 use crate::library;
 use crate::limits::*;
@@ -131,13 +131,9 @@ pub fn accepted<'a>(
 /// `lists` lists of up to `longest` steps, with one collector each.
 pub fn random_lists(seed: u64, lists: u64, longest: u64) -> Tally {
     let mut tally = Tally::default();
-    for case in 0..lists {
-        let mut random = Random::case(seed, case);
-        let shape = match random.below(20) {
-            0 => generate::shape(&mut random),
-            _ => (random.between(1, 4) as usize, random.between(1, 3) as usize),
-        };
-        let mut list = List::any(&mut random, shape, longest);
+    let usual =
+        |random: &mut Random| (random.between(1, 4) as usize, random.between(1, 3) as usize);
+    for (case, mut random, mut list) in series(seed, lists, longest, usual) {
         let collector = Collector::any(&mut random, list.cards, list.counters);
         let after = only_allowed(&mut random, &mut list, collector);
         note_clears(&list, &after, collector, &mut tally);
