@@ -136,7 +136,7 @@ struct yelansub_reading {
  * The counter is quiet on this card when number is 0 and holders == 0. That is
  * not value == 0: a value can be 0 while counts that are cleared here are still
  * under way, and then holders is not 0. A count that is under way and not
- * cleared leaves the counter quiet until it is taken. A refused read has
+ * cleared does not keep the counter from being quiet. A refused read has
  * holders == 0 too, and says nothing of the counter.
  */
 struct yelansub_reading yelansub_read(const uint64_t *words, size_t words_len, uint64_t counter);

@@ -48,9 +48,9 @@ fn a_value_of_0_with_a_cancelled_count_under_way_is_not_quiet() {
     assert_eq!((read, read.is_quiet(), sets), (reading(0, 0, 0), true, [true, true, false]));
 }
 
-/// What is under way and not cancelled counts when it comes; until then the counter is quiet.
+/// It counts when it comes.
 #[test]
-fn a_count_under_way_does_not_end_quiet() {
+fn a_count_under_way_that_is_not_cancelled_is_no_holder() {
     let (read, sets) = card_2(&COUNTED);
     assert_eq!((read, read.is_quiet(), sets), (reading(0, 0, 0), true, [true, true, false]));
     let (read, sets) = card_2(&[COUNTED[0], Step::deliver(2, 0)]);

@@ -63,7 +63,7 @@ abbrev pub as-many : List Step
 as-many = overtaken ++ count 1 0 ∷ deliver 2 1 ∷ []
 
 pub what-is-read :
-    -- a count is under way and not cancelled: quiet all the same, until it comes
+    -- a count is under way and not cancelled: quiet all the same; when it has come, not
     (read-there counted ≡ read-of 0 0 0) × (is-quiet (read-there counted) ≡ true)
     × (read-there (counted ++ deliver 2 0 ∷ []) ≡ read-of 1 1 1) × (is-quiet (read-there (counted ++ deliver 2 0 ∷ [])) ≡ false)
     -- the value is 0 and card 0's cancelled count has still to come: not quiet
