@@ -21,7 +21,7 @@ use Rattle.replica_model.specs.PresentLaws.{present-below}
 use Rattle.replica_model.specs.declared.Reading.{Reading}
 use Rattle.replica_model.specs.AcceptedCalls.{sent-facts}
 use Rattle.replica_model.specs.Senders.{Sending, count-writable, clear-writable}
-use Rattle.replica_model.specs.CallsLaws.{count-decided, clear-decided, value-decided, read-and-clear-decided}
+use Rattle.replica_model.specs.CallsLaws.{read-passes, count-decided, clear-decided, value-decided, read-and-clear-decided}
 use Rattle.replica_model.specs.Claims.{count-isolates, clear-isolates, read-and-clear-isolates}
 use Rattle.replica_model.specs.Format.{format-1}
 use Rattle.chassis_model.specs.Run.{Making, Count, Clear, ReadAndClear, Make, call-of}
@@ -29,7 +29,6 @@ use Rattle.chassis_model.specs.Ledger.{ledger-action}
 use Rattle.chassis_model.specs.Answers.{step-size, value-asked}
 use Rattle.chassis_model.specs.Numbered.{Sendable}
 use Rattle.chassis_model.specs.InStep.{Heads}
-use Rattle.chassis_model.specs.Reads.{read-passes}
 
 -- the message that a count or a clear makes on a chassis of r cards, from its card's replica
 unfoldable pub step-message : ℕ → ledger.Step → Replica → Message

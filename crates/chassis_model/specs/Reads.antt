@@ -1,8 +1,7 @@
 -- LAWS. A read on a card in step with the theory is the ledger's reading: the checks pass, the words show the replica, and the theory's theorem says what it reads.
 use Prim.Native.Nat.{ℕ, _<_}
-use mathlib.Core.Path.{_≡_, refl, sym, ap, _∙_}
+use mathlib.Core.Path.{_≡_, sym, ap, _∙_}
 use mathlib.Core.List.{List}
-use borrow.Author.Tests.{lt-ltb}
 use Rattle.protocol.specs.Entry.{present}
 use Rattle.protocol.specs.Ledger.{holds, ledger-value}
 use Rattle.protocol.specs.Chassis.{Replica, read-value, read-holders}
@@ -11,18 +10,12 @@ use Rattle.protocol.specs.Makers.{holds-is}
 use Rattle.protocol.specs.Theorem.{value-is, holders-are}
 use Rattle.protocol.specs.Functions.{count-below}
 use Rattle.protocol.specs.AcceptanceLaws.{count-cong}
-use Rattle.replica_model.specs.Layout.{cards, counters, entry-of, layout}
+use Rattle.replica_model.specs.Layout.{cards, entry-of, layout}
 use Rattle.replica_model.specs.declared.Reading.{Reading}
 use Rattle.replica_model.specs.Calls.{reading, read-on, holders}
-use Rattle.replica_model.specs.ClaimTerms.{Right, RowOf}
-use Rattle.replica_model.specs.RowLaws.{right-from, row-from}
-use Rattle.replica_model.specs.CallsLaws.{read-decided}
+use Rattle.replica_model.specs.CallsLaws.{read-passes}
 use Rattle.chassis_model.specs.Ledger.{ledger-reading}
 use Rattle.chassis_model.specs.InStep.{Heads, CardsAt, reached-right, reached-row}
-
--- where the checks pass
-pub read-passes : (b : List ℕ) (q : ℕ) → Right b → q < counters b → RowOf b q → read-on b q ≡ reading b q
-read-passes b q f l w = let d = read-decided b q in d .accepted (d .exact 0 .1 (right-from b f, (lt-ltb q (counters b) l, (row-from b q w, refl))))
 
 -- what is read, in words that show a replica
 reading-shown : (r k i q : ℕ) (b : List ℕ) (c : Replica) → Heads r k i b → Shows (layout r k) r k b c → q < k

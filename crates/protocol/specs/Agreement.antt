@@ -12,8 +12,8 @@ use Rattle.protocol.specs.Cases.{by-place, by-le}
 use Rattle.protocol.specs.Tables.{sum-cong, bits}
 use Rattle.protocol.specs.Entry.{Entry, present}
 use Rattle.protocol.specs.EntryLaws.{fixed}
-use Rattle.protocol.specs.Names.{Name, name, has}
-use Rattle.protocol.specs.NameLaws.{Prefixes}
+use Rattle.protocol.specs.Names.{Name, has}
+use Rattle.protocol.specs.NameLaws.{Prefixes, prefix-within}
 use Rattle.protocol.specs.Ledger.{Ledger, holds}
 use Rattle.protocol.specs.Chassis.{Chassis, read-value, read-holders}
 use Rattle.protocol.specs.Chain.{mark-at}
@@ -26,14 +26,9 @@ use Rattle.protocol.specs.Arrivals.{Arrivals, lacks, equal-cancelled}
 use Rattle.protocol.specs.RoundRobin.{IsLink}
 
 -- equal sets hold equally many names of each card
-no-longer : (s t : List Name) (f g : ℕ → ℕ) → Prefixes s f → Prefixes t g → ((n : Name) → has s n ≡ has t n) → (j : ℕ) → f j ≤ g j
-no-longer s t f g ks kt same j =
-    by-le (f j) (g j) (λ l. l)
-    (λ l. let x = kt .only j (f j) (sym (same (name j (f j))) ∙ ks .all j (f j) (omega arith) (omega arith)) in absurd (omega arith))
-
 same-lengths : (s t : List Name) (f g : ℕ → ℕ) → Prefixes s f → Prefixes t g → ((n : Name) → has s n ≡ has t n) → (j : ℕ) → f j ≡ g j
 same-lengths s t f g ks kt same j =
-    let a = no-longer s t f g ks kt same j in let b = no-longer t s g f kt ks (λ n. sym (same n)) j in omega arith
+    let a = prefix-within s t f g ks kt (λ n e. sym (same n) ∙ e) j in let b = prefix-within t s g f kt ks (λ n e. same n ∙ e) j in omega arith
 
 -- two cards that read alike, as the chassis and as counter q's ledger have it
 pub record ReadAlike (r q i j : ℕ) (st : Chassis) (l : Ledger) : Type 0 where

@@ -2,6 +2,7 @@
 --     join-ok            names that join after a prefix make a longer prefix
 --     latest-is          the latest name is the f j-th
 --     beyond-is          a name of j is in s and not in t exactly if s's prefix is longer
+--     within-prefix      s is a part of t exactly if no prefix of s is longer (and `prefix-within`)
 --     tally-is           the names in s and not in t: the sum of the differences
 use Prim.Native.Nat.{ℕ, zero, suc, _+_, _-_, _≤_, _<_, max}
 use mathlib.Core.Path.{_≡_, refl, sym, ap, ap₂, _∙_}
@@ -185,6 +186,22 @@ module _ (s t : List Name) (f g : ℕ → ℕ) (ks : Prefixes s f) (kt : Prefixe
       by-le (n .ordinal) (g (n .card))
       (λ l. rw (le-ltb (g (n .card)) (n .ordinal) l, kt .all (n .card) (n .ordinal) (ks .only (n .card) (n .ordinal) c .0) l))
       (λ l. rw (lt-ltb (g (n .card)) (n .ordinal) l, not-yes (has t n) (λ e. let q = kt .only (n .card) (n .ordinal) e in omega arith)))
+
+  -- the last of a longer prefix is not in the shorter one
+  pub longer-has : (j : ℕ) → g j < f j → (has s (name j (f j)) ≡ true) × (has t (name j (f j)) ≡ false)
+  longer-has j l = (ks .all j (f j) (omega arith) (omega arith), not-yes (has t (name j (f j))) (λ e. let q = kt .only j (f j) e in omega arith))
+
+  -- the one set is a part of the other exactly if no prefix is longer
+  pub prefix-within : ((n : Name) → has s n ≡ true → has t n ≡ true) → (j : ℕ) → f j ≤ g j
+  prefix-within h j =
+      by-le (f j) (g j) (λ l. l)
+      (λ l. let x = longer-has j l in absurd (false≢true (sym (x .1) ∙ h (name j (f j)) (x .0))))
+
+  pub within-prefix : ((j : ℕ) → f j ≤ g j) → (n : Name) → has s n ≡ true → has t n ≡ true
+  within-prefix h n e =
+      let x = ks .only (n .card) (n .ordinal) e in
+      let y = h (n .card) in
+      kt .all (n .card) (n .ordinal) (x .0) (omega arith)
 
   pub beyond-is : (j : ℕ) → beyond j s t ≡ ltb (g j) (f j)
   unfolding beyond

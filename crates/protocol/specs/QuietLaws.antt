@@ -14,7 +14,7 @@ use borrow.Author.Tests.{eq-eqb, ne-eqb}
 use Rattle.protocol.specs.Cases.{by-test, by-le, by-place, not-yes}
 use Rattle.protocol.specs.Totals.{bits-zero, bits-some}
 use Rattle.protocol.specs.Names.{Name, name, has}
-use Rattle.protocol.specs.NameLaws.{Prefixes, tally-zero}
+use Rattle.protocol.specs.NameLaws.{Prefixes, longer-has, prefix-within, within-prefix, tally-zero}
 use Rattle.protocol.specs.Joins.{names-after-only, names-after-all}
 use Rattle.protocol.specs.Ledger.{Ledger, holds, ledger-value, ledger-holders}
 use Rattle.protocol.specs.Chassis.{Chassis}
@@ -26,26 +26,6 @@ use Rattle.protocol.specs.Makers.{holds-apart}
 use Rattle.protocol.specs.InvariantSteps.{items, waiting, Invariant}
 use Rattle.protocol.specs.Collects.{received-outside}
 use Rattle.protocol.specs.Quiet.{EqualSets, Brings, StillToReceive, Settled, CancelledAhead}
-
--- ---- names that are in one set and not in the other
-
--- two sets that hold, of each card j, the first f j and the first g j names
-module _ (s t : List Name) (f g : ℕ → ℕ) (ks : Prefixes s f) (kt : Prefixes t g) where
-  -- the last of a longer prefix is not in the shorter one
-  longer-has : (j : ℕ) → g j < f j → (has s (name j (f j)) ≡ true) × (has t (name j (f j)) ≡ false)
-  longer-has j l = (ks .all j (f j) (omega arith) (omega arith), not-yes (has t (name j (f j))) (λ e. let q = kt .only j (f j) e in omega arith))
-
-  -- the one is a part of the other exactly if no prefix is longer
-  prefix-within : ((n : Name) → has s n ≡ true → has t n ≡ true) → (j : ℕ) → f j ≤ g j
-  prefix-within h j =
-      by-le (f j) (g j) (λ l. l)
-      (λ l. let x = longer-has j l in absurd (false≢true (sym (x .1) ∙ h (name j (f j)) (x .0))))
-
-  within-prefix : ((j : ℕ) → f j ≤ g j) → (n : Name) → has s n ≡ true → has t n ≡ true
-  within-prefix h n e =
-      let x = ks .only (n .card) (n .ordinal) e in
-      let y = h (n .card) in
-      kt .all (n .card) (n .ordinal) (x .0) (omega arith)
 
 -- ---- the increments that a link has still to hand over, of card s's notes h, where k is the mark of the notes before
 

@@ -24,7 +24,7 @@ use Rattle.replica_model.specs.Layout.{cards, counters, own-card, C-of, 
 use Rattle.replica_model.specs.Calls.{right, row-well-formed, reading, read-on, count-on, clear-on, read-and-clear-on, take-on, send-checks, holders, count-of, clear-of, words-after, making-checks}
 use Rattle.replica_model.specs.ClaimTerms.{Right, Performed, OnlyMoves, Keeps, Isolates}
 use Rattle.replica_model.specs.RowLaws.{right-facts, right-from, row-facts, row-from}
-use Rattle.replica_model.specs.CallsLaws.{read-decided, count-decided, clear-decided, read-and-clear-decided, take-decided}
+use Rattle.replica_model.specs.CallsLaws.{read-accepted, read-passes, count-decided, clear-decided, read-and-clear-decided, take-decided}
 use Rattle.replica_model.specs.WellFormedKept.{FittingEntries, Fitting}
 use Rattle.replica_model.specs.Performed.{performed, only-moves, right-kept, row-kept}
 use Rattle.replica_model.specs.Senders.{Sending, count-fits, clear-fits}
@@ -106,8 +106,7 @@ pub read-before : (b : List ℕ) (q : ℕ) (out : List ℕ) → let done = read-
 read-before b q out h =
     let d = read-and-clear-decided b q out in
     let k = sent-facts b q out (clear-length (holders b q)) (d .exact 0 .0 h) in
-    let accepted : read-on b q .number ≡ 0 = read-decided b q .exact 0 .1 (right-from b (k .right), (lt-ltb q (counters b) (k .counter), (row-from b q (k .row), refl))) in
-    (accepted, rw (d .accepted h, read-decided b q .accepted accepted))
+    (read-accepted b q (k .right) (k .counter) (k .row), rw (d .accepted h, read-passes b q (k .right) (k .counter) (k .row)))
 
 -- ---- what every move keeps
 

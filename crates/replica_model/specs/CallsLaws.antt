@@ -1,17 +1,19 @@
--- LAWS. Each call is a list of checks and a result, so it is decided by its list (`ChecksLaws` of protocol); and how long a clear's message is.
-use Prim.Native.Nat.{ℕ}
+-- LAWS. Each call is a list of checks and a result, so it is decided by its list (`ChecksLaws` of protocol); when a read is accepted; and how long a clear's message is.
+use Prim.Native.Nat.{ℕ, _<_}
 use mathlib.Core.Path.{_≡_, refl, ap}
 use mathlib.Core.Logic.{_≢_}
 use mathlib.Core.List.{List}
-use borrow.Author.Tests.{eq-eqb, ne-eqb}
+use borrow.Author.Tests.{lt-ltb, eq-eqb, ne-eqb}
 use Rattle.protocol.specs.Checks.{Check, Decided}
 use Rattle.protocol.specs.ChecksLaws.{decided}
 use Rattle.protocol.specs.Chassis.{Message, count-message, clear-message}
 use Rattle.protocol.specs.Store.{shown}
 use Rattle.wire.specs.Message.{increment-length, clear-length}
-use Rattle.replica_model.specs.Layout.{cards, entry-of, fresh-words}
+use Rattle.replica_model.specs.Layout.{cards, counters, entry-of, fresh-words}
 use Rattle.replica_model.specs.Format.{Format, format-1, size-of}
 use Rattle.replica_model.specs.PresentLaws.{present-length}
+use Rattle.replica_model.specs.ClaimTerms.{Right, RowOf}
+use Rattle.replica_model.specs.RowLaws.{right-from, row-from}
 use Rattle.replica_model.specs.Calls.{open-checks, open-on, read-checks, no-reading, reading, read-on, send-checks, SendOutcome, not-sent, sent-with, send-with, holders, count-of, count-on, clear-of, clear-on, with-value, read-and-clear-on, take-checks, not-taken, taken-with, take-with}
 
 pub open-decided : (b : List ℕ) (r k own : ℕ)
@@ -22,6 +24,13 @@ open-decided b r k own = decided (λ o. o .number) _ (λ n. refl) _ refl (open-c
 pub read-decided : (b : List ℕ) (q : ℕ) → Decided (λ o. o .number) no-reading (read-checks b q) (reading b q) (read-on b q)
 unfolding read-on reading
 read-decided b q = decided (λ o. o .number) no-reading (λ n. refl) (reading b q) refl (read-checks b q) refl
+
+-- where the replica is right, the counter is there and its row is well-formed, a read is accepted
+pub read-accepted : (b : List ℕ) (q : ℕ) → Right b → q < counters b → RowOf b q → read-on b q .number ≡ 0
+read-accepted b q f l w = read-decided b q .exact 0 .1 (right-from b f, (lt-ltb q (counters b) l, (row-from b q w, refl)))
+
+pub read-passes : (b : List ℕ) (q : ℕ) → Right b → q < counters b → RowOf b q → read-on b q ≡ reading b q
+read-passes b q f l w = read-decided b q .accepted (read-accepted b q f l w)
 
 -- a message that is sent, whatever it says
 pub send-decided : (F : Format) (b : List ℕ) (q : ℕ) (out : List ℕ) (m : Message)

@@ -23,7 +23,7 @@ use Rattle.replica_model.specs.Calls.{sizes-in-range, right, row-well-fo
 use Rattle.replica_model.specs.ClaimTerms.{Right, RowOf, Sizes}
 use Rattle.replica_model.specs.RowLaws.{right-from, row-from, tests}
 use Rattle.replica_model.specs.Format.{content, format-1}
-use Rattle.replica_model.specs.CallsLaws.{open-decided, read-decided, count-decided, clear-decided, take-decided}
+use Rattle.replica_model.specs.CallsLaws.{open-decided, read-accepted, count-decided, clear-decided, take-decided}
 
 pub fresh-right : (r k own : ℕ) → Sizes r k → own < r → Right (fresh-words r k own)
 unfolding fresh-words
@@ -60,7 +60,7 @@ module _ (r k own q : ℕ) (s : Sizes r k) (o : own < r) (hq : q < k) where
 
   pub fresh-read : read-on b q .number ≡ 0
   unfolding fresh-words
-  fresh-read = read-decided b q .exact 0 .1 (is-right, (lt-ltb q k hq, (is-well-formed, refl)))
+  fresh-read = read-accepted b q (fresh-right r k own s o) hq (fresh-row r k own q o hq)
 
   pub fresh-count : (out : List ℕ) → increment-length ≤ length out → count-on b q out .answer .number ≡ 0
   fresh-count out l = count-decided b q out .exact 0 .1 (sends out increment-length l)

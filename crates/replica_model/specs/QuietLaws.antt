@@ -1,11 +1,11 @@
 -- LAWS. Quiet, of a row: the mask of the holders is 0 exactly if no entry is present, and an entry of a well-formed row that is not present is all zeros.
 use Prim.Native.Nat.{ℕ, _-_, _<_}
-use mathlib.Core.Path.{_≡_, refl, sym, ap, _∙_}
+use mathlib.Core.Path.{_≡_, sym, ap, _∙_}
 use mathlib.Core.Logic.{_↔_}
 use mathlib.Core.Bool.{Bool, true, false, _&&_, false≢true}
 use mathlib.Core.List.{List}
 use native.Mathlib.Omega.{arith}
-use borrow.Author.Tests.{lt-ltb, ltb-false, eqb-true, eq-eqb, ne-eqb}
+use borrow.Author.Tests.{ltb-false, eqb-true, eq-eqb, ne-eqb}
 use Rattle.protocol.specs.Limits.{MAX}
 use Rattle.protocol.specs.Cases.{by-place}
 use Rattle.protocol.specs.declared.Entry.{Entry}
@@ -19,8 +19,8 @@ use Rattle.protocol.specs.AcceptanceLaws.{count-none}
 use Rattle.replica_model.specs.Layout.{cards, counters, entry-of}
 use Rattle.replica_model.specs.Calls.{right, row-well-formed, no-reading, reading, is-quiet, read-on}
 use Rattle.replica_model.specs.ClaimTerms.{RowOf, AllZeros}
-use Rattle.replica_model.specs.RowLaws.{row-facts}
-use Rattle.replica_model.specs.CallsLaws.{read-decided}
+use Rattle.replica_model.specs.RowLaws.{right-facts, row-facts}
+use Rattle.replica_model.specs.CallsLaws.{read-decided, read-passes}
 
 refused-not-quiet : (n : ℕ) → (n ≡ 0 → ⊥) → is-quiet (no-reading n) ≡ false
 refused-not-quiet n some = ap (λ (t : Bool). t && true) (ne-eqb n 0 some)
@@ -50,10 +50,8 @@ module _ (b : List ℕ) (q : ℕ) where
   pub all-zeros : right b ≡ true → q < counters b → row-well-formed b q ≡ true → (is-quiet (read-on b q) ≡ true) ↔ AllZeros b q
   unfolding reading
   all-zeros h l w =
-      let d = read-decided b q in
-      let is = d .accepted (d .exact 0 .1 (h, (lt-ltb q (counters b) l, (w, refl)))) in
       let row = row-zeros (row-facts b q w) in
-      rw is (λ quiet. row .0 (eqb-true _ 0 quiet), λ all. eq-eqb _ 0 (row .1 all))
+      rw (read-passes b q (right-facts b h) l (row-facts b q w)) (λ quiet. row .0 (eqb-true _ 0 quiet), λ all. eq-eqb _ 0 (row .1 all))
 
   -- no holders, no value
   none-read : reading b q .holders ≡ 0 → reading b q ≡ record { number = 0; value = 0; holders = 0; «holder_count» = 0 }
