@@ -122,7 +122,7 @@ uint64_t yelansub_open(uint64_t *words, size_t words_len,
 
 struct yelansub_reading {
     uint64_t number;
-    uint64_t value;        /* increments received and not cleared */
+    uint64_t value;        /* increments received and not cleared: at most 16 (2^48 - 1) */
     uint64_t holders;      /* bit j is one if card j has an entry */
     uint64_t holder_count; /* ones in holders */
 };

@@ -287,17 +287,30 @@ fn refusals_in_their_order() {
     }
 }
 
-/// All that sixteen cards can have counted, but for the own card's last: a card with that has made
-/// its last message.
-#[test]
-fn the_largest_value_read_and_cleared() {
+/// What sixteen cards can have counted at most; the own card, which is card 0, has counted `own`.
+fn all_counted(own: u64) -> Vec<u64> {
     let mut words = vec![0; replica_words(MOST_CARDS, 1)];
     assert_eq!(library::open(&mut words, CARDS, 1, 0), OK);
     for card in 0..MOST_CARDS {
-        let most = if card == 0 { MAX - 1 } else { MAX };
+        let most = if card == 0 { own } else { MAX };
         (words[increments_at(card)], words[messages_at(MOST_CARDS, card)]) = (most, most);
         words[entry_at(MOST_CARDS, 0, card)].copy_from_slice(&[most, 0, most]);
     }
+    words
+}
+
+#[test]
+fn the_largest_value_read() {
+    let reading = read(&all_counted(MAX), 0);
+    assert_eq!((reading.number, reading.value), (OK, CARDS * MAX));
+    assert_eq!(reading.value.to_string().len(), 16);
+    assert_eq!(reading.holders, (1 << MOST_CARDS) - 1);
+}
+
+/// Of all but the own card's last: a card with that has made its last message.
+#[test]
+fn the_largest_value_read_and_cleared() {
+    let mut words = all_counted(MAX - 1);
     let value = CARDS * MAX - 1;
     assert_eq!(read(&words, 0).value, value);
     let answer = send(&READ_AND_CLEAR, &mut words, 0, LONGEST_MESSAGE);

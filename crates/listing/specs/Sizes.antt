@@ -1,9 +1,10 @@
--- LAWS. What the contracts of the inner functions cite: the most bytes of each part of a listing, and the sizes of a run that can be listed.
-use Prim.Native.Nat.{ℕ, _+_, _*_, _≤_}
+-- LAWS. What the contracts of the inner functions cite: the most bytes of each part of a listing, the numbers of a line, and the sizes of a run that can be listed.
+use Prim.Native.Nat.{ℕ, _+_, _*_, _^_, _≤_, _<_}
 use mathlib.Core.List.{List}
 use lib.ListN.{length}
 use Rattle.replica_model.specs.Layout.{replica-length}
-use Rattle.text.specs.Decimal.{most-digits}
+use Rattle.replica_model.specs.declared.Reading.{Reading}
+use Rattle.text.specs.Put.{most-digits}
 use Rattle.chassis_model.specs.Run.{step-length}
 use Rattle.listing.specs.Listing.{comma, crlf, header, most-listed-cards, most-listed-counters, most-listed-steps}
 
@@ -24,6 +25,15 @@ card-bytes = line-bytes * most-listed-counters
 -- of a listing: the header and the lines of every card
 abbrev pub listing-bytes : ℕ
 listing-bytes = length header + card-bytes * most-listed-cards
+
+-- ---- the numbers
+
+-- of a line: numbers that can be written
+pub record Writable (card counter : ℕ) (a : Reading) : Type 0 where
+  pub card-small : card < 10 ^ most-digits
+  pub counter-small : counter < 10 ^ most-digits
+  pub value-small : a .value < 10 ^ most-digits
+  pub holders-small : a .holders < 10 ^ most-digits
 
 -- ---- the sizes
 

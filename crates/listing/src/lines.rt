@@ -3,14 +3,14 @@ use replica::read;
 use replica::words;
 use replica_model::Reading;
 ghost use mathlib.Core.Path.{_≡_};
-ghost use Prim.Native.Nat.{_+_, _*_, _≤_};
+ghost use Prim.Native.Nat.{_+_, _*_, _≤_, _<_};
 ghost use lib.ListN.{length};
 ghost use Rattle.replica_model.specs.Layout.{replica-length};
 ghost use Rattle.replica_model.specs.Calls.{read-on};
 ghost use Rattle.chassis_model.specs.ListParts.{part};
 ghost use Rattle.text.specs.Put.{Put};
 ghost use Rattle.listing.specs.Listing.{quiet, line, card-lines, lines, most-listed-cards, most-listed-counters};
-ghost use Rattle.listing.specs.Sizes.{line-bytes, card-bytes};
+ghost use Rattle.listing.specs.Sizes.{line-bytes, card-bytes, Writable};
 
 const COMMA: [u8; 1] = *b",";
 
@@ -21,14 +21,14 @@ pub(crate) const LINE_BYTES: usize = 5 * text::MOST_DIGITS + 4 + 2;
 
 // "quiet 1 or 0"
 fn quiet_of(a: Reading) -> u64
-    ensures { λ r. ⌜ r ≡ quiet a ⌝ }
+    ensures { λ r. ⌜ (r ≡ quiet a) × (r ≤ 1) ⌝ }
 {
     read::is_quiet(a) as u64
 }
 
 // "decimal numbers, the holder set as a number, quiet 1 or 0"
 fn put_line(card: u64, counter: u64, a: Reading, out: &mut [u8], at: usize) -> usize
-    requires { ⌜ at + line-bytes ≤ length (now out) ⌝ }
+    requires { ⌜ Writable card counter a × (at + line-bytes ≤ length (now out)) ⌝ }
     ensures { λ r. ⌜ Put line-bytes (now (out .entry)) at (line card counter a) (now (out .exit)) r ⌝ }
 {
     let counter_at = text::put_field(card, &COMMA, out, at);
@@ -40,7 +40,7 @@ fn put_line(card: u64, counter: u64, a: Reading, out: &mut [u8], at: usize) -> u
 
 // The line of one counter, as the card's replica reads it.
 fn put_counter(card: usize, counter: usize, b: &[u64], out: &mut [u8], at: usize) -> usize
-    requires { ⌜ at + line-bytes ≤ length (now out) ⌝ }
+    requires { ⌜ (card < most-listed-cards) × (counter < most-listed-counters) × (at + line-bytes ≤ length (now out)) ⌝ }
     ensures { λ r. ⌜ Put line-bytes (now (out .entry)) at (line card counter (read-on (now (b .entry)) counter)) (now (out .exit)) r ⌝ }
 {
     let a = read::read(b, counter as u64);
@@ -49,7 +49,7 @@ fn put_counter(card: usize, counter: usize, b: &[u64], out: &mut [u8], at: usize
 
 // The lines of one card.
 fn put_card(card: usize, counters: usize, b: &[u64], out: &mut [u8], at: usize) -> usize
-    requires { ⌜ at + line-bytes * counters ≤ length (now out) ⌝ }
+    requires { ⌜ (card < most-listed-cards) × (counters ≤ most-listed-counters) × (at + line-bytes * counters ≤ length (now out)) ⌝ }
     ensures { λ r. ⌜ Put (line-bytes * counters) (now (out .entry)) at (card-lines card (now (b .entry)) counters) (now (out .exit)) r ⌝ }
 {
     let mut counter: usize = 0;
@@ -80,7 +80,7 @@ fn put_replica(
     out: &mut [u8],
     at: usize,
 ) -> usize
-    requires { ⌜ (counters ≤ most-listed-counters) × (card * size + size ≤ length (now words)) × (at + card-bytes ≤ length (now out)) ⌝ }
+    requires { ⌜ (card < most-listed-cards) × (counters ≤ most-listed-counters) × (card * size + size ≤ length (now words)) × (at + card-bytes ≤ length (now out)) ⌝ }
     ensures { λ r. ⌜ Put card-bytes (now (out .entry)) at (card-lines card (part size (now (words .entry)) card) counters) (now (out .exit)) r ⌝ }
 {
     let b = replica_of(words, size, card);

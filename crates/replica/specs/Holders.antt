@@ -1,15 +1,23 @@
--- CLAIMS. What a caller of read may rely on of the holders, beyond the call's own equation (`Calls`).
-use Prim.Native.Nat.{ℕ, _/_, _%_, _^_, _<_}
+-- CLAIMS. What a caller of read may rely on of the holders and of the value's size, beyond the call's own equation (`Calls`).
+use Prim.Native.Nat.{ℕ, _-_, _*_, _/_, _%_, _^_, _≤_, _<_}
 use mathlib.Core.Path.{_≡_, sym}
 use mathlib.Core.List.{List}
 use mathlib.Core.Bool.{cond}
+use native.Mathlib.Nat.{mul-le-mul-right, pow-le-pow-right, lt-of-lt-of-le}
+use native.Mathlib.Omega.{arith}
 use lib.Count.{ones}
+use lib.Dec.{lit<}
+use Rattle.protocol.specs.Limits.{MAX, most-cards}
+use Rattle.protocol.specs.Cases.{by-place}
 use Rattle.protocol.specs.Entry.{present}
-use Rattle.protocol.specs.Chassis.{read-holders}
+use Rattle.protocol.specs.Chassis.{read-value, read-holders}
 use Rattle.protocol.specs.StoreLaws.{shown}
 use Rattle.replica_model.specs.Layout.{cards, entry-of}
-use Rattle.replica_model.specs.Calls.{reading}
-use Rattle.replica.specs.Sums.{bits-at, bits-below, ones-bits}
+use Rattle.replica_model.specs.Calls.{reading, read-on}
+use Rattle.replica_model.specs.ClaimTerms.{RowOf}
+use Rattle.replica_model.specs.RowLaws.{right-facts, row-facts}
+use Rattle.replica_model.specs.CallsLaws.{read-decided}
+use Rattle.replica.specs.Sums.{sum-below, bits-at, bits-below, ones-bits}
 
 module _ (b : List ℕ) (q : ℕ) where
   -- Bit j of the holders is one exactly where card j's entry is present.
@@ -26,3 +34,21 @@ module _ (b : List ℕ) (q : ℕ) where
   pub holders-counted : reading b q .«holder_count» ≡ ones (reading b q .holders)
   unfolding reading read-holders shown
   holders-counted = sym (ones-bits (cards b) (λ j. present (entry-of (cards b) b q j)))
+
+  -- Whatever the words and the counter, the value that a read gives is at most sixteen times MAX, and the holders have no bit from the sixteenth on.
+  pub read-below : (read-on b q .value ≤ most-cards * MAX) × (read-on b q .holders < 2 ^ most-cards)
+  unfolding reading read-value shown
+  read-below =
+      by-place (read-on b q .number) 0
+      (λ accepted.
+      let passed = read-decided b q .exact 0 .0 accepted in
+      let few : cards b ≤ most-cards = right-facts b (passed .0) .sizes .few-cards in
+      rw (read-decided b q .accepted accepted) (
+        omega (arith, value-below (row-facts b q (passed .1 .1 .0)), mul-le-mul-right MAX few),
+        lt-of-lt-of-le holders-below (pow-le-pow-right (lit< tt) few),
+      ))
+      (λ refused. rw (read-decided b q .refused refused) (omega arith, lit< tt))
+    where
+      value-below : RowOf b q → reading b q .value ≤ cards b * MAX
+      value-below row =
+          sum-below (cards b) MAX (λ j. entry-of (cards b) b q j .p - entry-of (cards b) b q j .n) (λ j l. let e = row .entry j l in omega arith)

@@ -33,6 +33,10 @@ pub flag-is : (t : Bool) → boolByte t ≡ cond t 1 0
 flag-is true = refl
 flag-is false = refl
 
+pub flag-small : (t : Bool) → boolByte t ≤ 1
+flag-small true = omega arith
+flag-small false = omega arith
+
 abbrev bit : Bool → ℕ
 bit t = cond t 1 0
 

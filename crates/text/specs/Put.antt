@@ -1,10 +1,9 @@
--- LAWS. What the contracts of the functions that write text cite.
-use Prim.Native.Nat.{ℕ, zero, suc, _+_, _/_, _%_, _≤_}
+-- DEFINITIONS. Text written into lent bytes.
+use Prim.Native.Nat.{ℕ, _+_, _≤_}
 use mathlib.Core.Path.{_≡_}
-use mathlib.Core.List.{List, [], _∷_, _++_}
+use mathlib.Core.List.{List}
 use lib.ListN.{length}
 use lib.Seq.{sets}
-use Rattle.text.specs.Decimal.{digit, digits}
 
 -- `bytes` stored from `at` on, and nothing else; `behind` is the place behind them, at most `most` further
 pub record Put (most : ℕ) (before : List ℕ) (at : ℕ) (bytes after : List ℕ) (behind : ℕ) : Type 0 where
@@ -12,11 +11,6 @@ pub record Put (most : ℕ) (before : List ℕ) (at : ℕ) (bytes after : List �
   pub next : behind ≡ at + length bytes
   pub short : behind ≤ at + most
 
--- how many digits `digits` gives
-abbrev pub digit-count : ℕ → ℕ → ℕ
-digit-count most x = length (digits most x)
-
--- the last `count` decimal digits of x
-unfoldable pub fixed : ℕ → ℕ → List ℕ
-fixed zero x = []
-fixed (suc count) x = fixed count (x / 10) ++ digit (x % 10) ∷ []
+-- how many digits the numbers that are written may have: "every number below 10^16"
+abbrev pub most-digits : ℕ
+most-digits = 16

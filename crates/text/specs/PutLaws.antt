@@ -1,16 +1,16 @@
 -- LAWS. Text stored in stretches side by side, byte by byte, as a number's digits, and at the front.
-use Prim.Native.Nat.{ℕ, suc, _+_, _*_, _≤_, _<_}
+use Prim.Native.Nat.{ℕ, zero, suc, _+_, _-_, _*_, _^_, _≤_, _<_}
 use mathlib.Core.Path.{_≡_, refl, sym, ap, _∙_}
 use mathlib.Core.List.{List, [], _∷_, _++_}
-use native.Mathlib.Nat.{mul-suc}
-use native.Mathlib.Numerals.{add-one}
+use native.Mathlib.Nat.{mul-suc, not-suc-le-zero}
+use native.Mathlib.Numerals.{add-one, sub-one}
 use native.Mathlib.Omega.{arith}
 use lib.ListN.{length, getD, set, take, drop, length-append}
 use lib.Seq.{sets, take-suc, length-take-le, length-sets}
 use Rattle.protocol.specs.StoredLists.{sets-append, sets-front}
-use Rattle.text.specs.Decimal.{most-digits, decimal}
-use Rattle.text.specs.Put.{Put, digit-count, fixed}
-use Rattle.text.specs.DecimalLaws.{digits-fixed, digit-count-most}
+use Rattle.text.specs.Decimal.{digit, word-digits, decimal}
+use Rattle.text.specs.Put.{Put, most-digits}
+use Rattle.text.specs.DecimalLaws.{Counted, fixed, fixed-length, fixed-first, digits-fixed}
 
 pub put-none : (before : List ℕ) (at : ℕ) → Put 0 before at [] before at
 put-none before at = record { stored = refl; next = omega arith; short = omega arith }
@@ -38,14 +38,24 @@ put-byte before text at i inside =
     let front : length (take i text) ≡ i = length-take-le i text (omega arith) in
     sym (rw (add-one i, take-suc text i 0 inside, sets-append before at (take i text) (getD text i 0 ∷ []), front))
 
+-- a number's digits, the first one first: the first, and then the others
+pub put-digit : (before : List ℕ) (at left d y : ℕ) → 0 < left → d < 10 → y < 10 ^ (left - 1)
+    → sets (set before at (digit d)) (at + 1) (fixed (left - 1) y) ≡ sets before at (fixed left (d * 10 ^ (left - 1) + y))
+put-digit before at zero d y some small below = absurd (not-suc-le-zero some)
+put-digit before at (suc n) d y some small below =
+    let rest : y < 10 ^ n = rw sub-one at below in
+    rw (sub-one, add-one at, fixed-first n d y small rest)
+
 -- a number's digits, stored as the last ones
-pub put-digits-of : (before after : List ℕ) (at x count : ℕ) → count ≡ digit-count most-digits x → after ≡ sets before at (fixed count x)
-    → Put most-digits before at (decimal x) after (at + count)
-put-digits-of before after at x count many stored = record {
-  stored = stored ∙ rw (many, ← digits-fixed most-digits x);
-  next = rw many;
-  short = omega (arith, many, digit-count-most most-digits x);
-}
+pub put-digits-of : (before after : List ℕ) (at x count end : ℕ) → Counted x count → count ≤ most-digits → after ≡ sets before at (fixed count x) → end ≡ at + count
+    → Put most-digits before at (decimal x) after end
+put-digits-of before after at x zero end c few stored next = absurd (not-suc-le-zero (c .some))
+put-digits-of before after at x (suc n) end c few stored next =
+    let is = digits-fixed word-digits n x (omega arith) c in record {
+      stored = stored ∙ rw is;
+      next = next ∙ rw (is, fixed-length);
+      short = omega arith;
+    }
 
 -- a text stored at the front where there is room: what it leaves, and how long it is
 pub put-front : {most behind : ℕ} {out bytes after : List ℕ} → Put most out 0 bytes after behind → most ≤ length out

@@ -11,8 +11,9 @@ const PRELUDE: &str = "Unit tt ⊥ ¬_ absurd rw rw⁻¹ simp search grw cc omeg
 
 const EXPORT: &str = "pub extern \"C\" fn ";
 
-/// The call behind the listing program: its crate, and how it begins.
-const LISTING: (&str, &str) = ("listing", "pub fn list(");
+/// What requests speak of and no host calls, the listing and the digit writer: the crate, and how
+/// the function begins.
+const INTERNAL: [(&str, &str); 2] = [("listing", "pub fn list("), ("text", "pub fn put_field(")];
 
 pub struct File {
     pub path: String,
@@ -89,11 +90,13 @@ impl Crates {
             }
         }
         // Names that are followed from nowhere would lead to nothing wrong.
-        let of_listing = |item: &&Item| crates.files[item.file].krate == LISTING.0;
         let contracts = crates.items.iter().filter(|item| item.kind == Kind::Contract);
-        let (listing, exports): (Vec<_>, Vec<_>) = contracts.partition(of_listing);
-        if listing.is_empty() || exports.is_empty() || !crates.items.iter().any(|item| item.claim) {
-            let problem = "the exports, the listing or the claims are not found";
+        let (internal, exports): (Vec<_>, Vec<_>) = contracts.partition(|item| {
+            INTERNAL.iter().any(|(krate, _)| crates.files[item.file].krate == *krate)
+        });
+        let claims = crates.items.iter().any(|item| item.claim);
+        if internal.len() != INTERNAL.len() || exports.is_empty() || !claims {
+            let problem = "the exports, the listing, the digit writer or the claims are not found";
             crates.problems.push(problem.to_string());
         }
         Ok(crates)
@@ -270,7 +273,8 @@ impl Crates {
         if let Some(name) = bare.strip_prefix("struct ").or(bare.strip_prefix("enum ")) {
             return self.add(name.split([' ', '<']).next()?, Kind::Struct, false);
         }
-        if line.starts_with(EXPORT) || (krate == LISTING.0 && line.starts_with(LISTING.1)) {
+        let internal = |(of, begins): &(&str, &str)| krate == *of && line.starts_with(begins);
+        if line.starts_with(EXPORT) || INTERNAL.iter().any(internal) {
             return self.add(line.split('(').next()?.rsplit(' ').next()?, Kind::Contract, false);
         }
         match self.items.last_mut().filter(|_| part == Part::Statement) {

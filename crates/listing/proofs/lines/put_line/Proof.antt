@@ -56,7 +56,7 @@ returns c =
     (counter .put-field2 .ensures))
     (value .put-field3 .ensures))
     (holders .put-field4 .ensures))
-    (rw (answer .quiet-of .ensures) at (quiet .put-field5 .ensures)))
+    (rw (answer .quiet-of .ensures .0) at (quiet .put-field5 .ensures)))
 
 pub put-line-spec : {M : Type 1} → statement M
 put-line-spec =

@@ -37,7 +37,7 @@ put-replica-requires c κs =
     let next : suc (turn .loop .card) ≤ entry .args .cards = omega arith in
     let inside : turn .loop .card * size + size ≤ length (now (entry .args .words)) =
     omega (arith, suc-mul (turn .loop .card) size, mul-le-mul-right size next) in
-    (search needs, inside, search needs)
+    (search needs, search needs, inside, search needs)
 
 add-card : tie.Need-add-card Inv-loop μ-loop
 add-card c = search needs
