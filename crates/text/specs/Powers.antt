@@ -3,7 +3,7 @@ use Prim.Native.Nat.{ℕ, zero, suc, _+_, _-_, _*_, _^_, _≤_, _<_}
 use mathlib.Core.Path.{_≡_}
 use mathlib.Core.Bool.{Bool, true, false, _&&_, false≢true}
 use mathlib.Core.List.{List, [], _∷_}
-use native.Mathlib.Nat.{pow-suc, pow-le-pow-right, not-suc-le-zero}
+use native.Mathlib.Nat.{pow-suc, pow-le-pow-right, le-of-lt, not-suc-le-zero}
 use native.Mathlib.Numerals.{sub-one}
 use native.Mathlib.Omega.{arith}
 use lib.Dec.{eqb, lit<}
@@ -18,7 +18,7 @@ tens (p ∷ []) = eqb p 1
 tens (p ∷ q ∷ table) = eqb p (10 * q) && tens (q ∷ table)
 
 -- so an entry is the power of as many as stand behind it
-pub tens-at : (table : List ℕ) (place behind : ℕ) → tens table ≡ true → suc (place + behind) ≡ length table → getD table place 0 ≡ 10 ^ behind
+tens-at : (table : List ℕ) (place behind : ℕ) → tens table ≡ true → suc (place + behind) ≡ length table → getD table place 0 ≡ 10 ^ behind
 unfolding tens
 tens-at [] place behind h long = absurd (false≢true h)
 tens-at (p ∷ []) zero behind h long = let none : behind ≡ 0 = omega arith in rw none (simp tests at h)
@@ -43,7 +43,5 @@ pub power-next : (left x : ℕ) → 0 < left → x < 10 ^ left → x < 10 * 10 ^
 power-next zero x some below = absurd (not-suc-le-zero some)
 power-next (suc n) x some below = rw sub-one (omega (arith, below, pow-suc 10 n))
 
-pub power-small : (n : ℕ) → n < most-digits → 10 ^ n ≤ 10 ^ 15
-power-small n few =
-    let within : n ≤ 15 = omega arith in
-    pow-le-pow-right (lit< tt) within
+pub power-small : (n : ℕ) → n < most-digits → 10 ^ n ≤ 10 ^ most-digits
+power-small n few = pow-le-pow-right (lit< tt) (le-of-lt few)

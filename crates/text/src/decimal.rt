@@ -72,7 +72,7 @@ fn less(x: u64, digit: u64, power: u64) -> First
 }
 
 fn digit_below_5(x: u64, power: u64) -> First
-    requires { ⌜ (power ≤ 10 ^ 15) × (x < 5 * power) ⌝ }
+    requires { ⌜ (power ≤ 10 ^ most-digits) × (x < 5 * power) ⌝ }
     ensures { λ r. ⌜ (r .digit * power + r .rest ≡ x) × (r .rest < power) × (r .digit < 5) ⌝ }
 {
     if x < power {
@@ -92,7 +92,7 @@ fn digit_below_5(x: u64, power: u64) -> First
 
 // The comparisons are written out: where LLVM knows the power, it turns a loop that subtracts the power as often as it goes into a division.
 fn first_digit(x: u64, power: u64) -> First
-    requires { ⌜ (power ≤ 10 ^ 15) × (x < 10 * power) ⌝ }
+    requires { ⌜ (power ≤ 10 ^ most-digits) × (x < 10 * power) ⌝ }
     ensures { λ r. ⌜ (r .digit * power + r .rest ≡ x) × (r .rest < power) × (r .digit < 10) ⌝ }
 {
     if x < 5 * power {
