@@ -29,6 +29,7 @@ said front (c ∷ text) = said (10 * front + (c - digit 0)) text
 abbrev pub number-of : List ℕ → ℕ
 number-of text = said 0 text
 
+-- 0 to 9 in ASCII and nothing else
 unfoldable pub only-digits : List ℕ → Bool
 only-digits [] = true
 only-digits (c ∷ text) = leb (digit 0) c && leb c (digit 9) && only-digits text

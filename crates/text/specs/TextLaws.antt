@@ -3,7 +3,7 @@ use Prim.Native.Nat.{ℕ, zero, suc, _+_, _-_, _*_, _/_, _%_, _^_, _≤_, _<_}
 use mathlib.Core.Path.{_≡_, refl, ap, _∙_}
 use mathlib.Core.Bool.{Bool, true, false, false≢true}
 use mathlib.Core.List.{List, [], _∷_, _++_}
-use native.Mathlib.Nat.{zero-add, pow-suc, div-lt-iff-lt-mul, le-div-iff-mul-le, mod-lt, div-add-mod, mul-le-mul-right, add-mul, mul-assoc, not-suc-le-zero}
+use native.Mathlib.Nat.{zero-add, pow-suc, pow-le-pow-right, div-lt-iff-lt-mul, le-div-iff-mul-le, mod-lt, div-add-mod, mul-le-mul-right, add-mul, mul-assoc, not-suc-le-zero}
 use native.Mathlib.Numerals.{sub-one}
 use native.Mathlib.Omega.{arith}
 use lib.Dec.{ltb, lit<}
@@ -118,20 +118,32 @@ digits-plain (suc most) x some below =
     (λ more. plain-from (digits (suc most) x) (digits-only (suc most) x) (digits-lead (suc most) x more below))
     (λ none. let small : x < 10 = omega arith in rw (digits-one most x small) (only-one x small))
 
--- a text of digits, the first of which is 0 only where it is the only one
-text-digits : (most c : ℕ) (text : List ℕ) → only-digits (c ∷ text) ≡ true → (1 ≤ length text → digit 0 < c) → length text < most
+-- a text of digits, the first of which is 0 only where it is the only one, that says a number of at most `most` digits: it is no longer than these
+text-digits : (most c : ℕ) (text : List ℕ) → 1 ≤ most → only-digits (c ∷ text) ≡ true → (1 ≤ length text → digit 0 < c) → number-of (c ∷ text) < 10 ^ most
     → digits most (number-of (c ∷ text)) ≡ c ∷ text
-text-digits most c text only lead short =
-    let t = text-fixed (c ∷ text) only in
-    let full : 1 ≤ length text → 10 ^ length text ≤ number-of (c ∷ text) = λ more.
-    let one : 1 ≤ c - digit 0 = omega (arith, lead more) in
-    omega (arith, first-said c text, mul-le-mul-right (10 ^ length text) one) in
+text-digits most c text some only lead below =
     digits-fixed most (length text) (number-of (c ∷ text)) short
     (record { some = omega arith; below = t .0; full = λ two. rw sub-one (full (omega arith)) })
     ∙ t .1
+  where
+    t : (number-of (c ∷ text) < 10 ^ suc (length text)) × (fixed (suc (length text)) (number-of (c ∷ text)) ≡ c ∷ text)
+    t = text-fixed (c ∷ text) only
 
-pub plain-text : (most : ℕ) (text : List ℕ) → plain text ≡ true → length text ≤ most → digits most (number-of text) ≡ text
+    full : 1 ≤ length text → 10 ^ length text ≤ number-of (c ∷ text)
+    full more =
+        let one : 1 ≤ c - digit 0 = omega (arith, lead more) in
+        omega (arith, first-said c text, mul-le-mul-right (10 ^ length text) one)
+
+    short : length text < most
+    short =
+        by-le most (length text)
+        (λ long.
+        let power : 10 ^ most ≤ 10 ^ length text = pow-le-pow-right (lit< tt) long in
+        absurd (omega (arith, power, full (omega arith), below)))
+        (λ less. less)
+
+pub plain-text : (most : ℕ) (text : List ℕ) → 1 ≤ most → plain text ≡ true → number-of text < 10 ^ most → digits most (number-of text) ≡ text
 unfolding plain
-plain-text most [] h short = absurd (false≢true h)
-plain-text most (c ∷ []) h short = text-digits most c [] h (λ none. absurd (not-suc-le-zero none)) short
-plain-text most (c ∷ d ∷ text) h short = let f = simp tests at h in text-digits most c (d ∷ text) (f .0) (λ more. f .1) short
+plain-text most [] some h below = absurd (false≢true h)
+plain-text most (c ∷ []) some h below = text-digits most c [] some h (λ none. absurd (not-suc-le-zero none)) below
+plain-text most (c ∷ d ∷ text) some h below = let f = simp tests at h in text-digits most c (d ∷ text) some (f .0) (λ more. f .1) below
