@@ -100,6 +100,7 @@ extern "C" {
 #define YELANSUB_BAD_KIND 12        /* no such kind of step */
 #define YELANSUB_NOTHING_WAITING 13 /* nothing to deliver on this link */
 #define YELANSUB_LOG_FULL 14        /* the card's log is too short for the message */
+#define YELANSUB_BAD_LOG 15         /* a log does not begin with what its card has made */
 
 /* Kinds of step. */
 #define YELANSUB_STEP_COUNT 1          /* card, counter */
@@ -313,6 +314,40 @@ uint64_t yelansub_run_records(uint64_t cards, uint64_t counters, uint64_t log_by
                               uint64_t *words, size_t words_len,
                               uint8_t *logs, size_t logs_len,
                               uint64_t *answers, size_t answers_len);
+
+struct yelansub_delivered {
+    uint64_t number;
+    uint64_t deliveries; /* how many it made, which is how far the total waiting has fallen */
+};
+
+/*
+ * Delivers what waits, over the words and logs that a run has left. It makes at
+ * most `most` deliveries, in rounds: receivers rising, within each the senders
+ * rising, one message from each link that has one waiting. A message waits on
+ * the link from one card to another while the sender's own N is above the
+ * receiver's N of it. Every delivery is that of a YELANSUB_STEP_DELIVER. Each
+ * call begins at receiver 0 and sender 0; most is any number. The logs are only
+ * read. Refused with, in this order, each over all cards before the next,
+ *   11  cards is not 1 to YELANSUB_MOST_CARDS, counters is not 1 to
+ *       YELANSUB_MOST_COUNTERS, or words_len or logs_len does not fit,
+ *   1   a replica's first words are not cards, counters and its place: card i
+ *       is in place i,
+ *   2   a row of a replica is not well-formed,
+ *   15  a log does not begin with its card's messages 1 to its own N, or some
+ *       card's N of it is above that. Log bytes past them are not looked at.
+ * It stops only at most, or when no link that is not passed over has a message
+ * waiting. A link is passed over, for the rest of the call, when yelansub_take
+ * declines its message: that stays waiting and is not counted.
+ *
+ * After a run, and after such calls on what it left, no link is passed over. The
+ * message in place q of its link is then taken within the first
+ * q * cards * (cards - 1) deliveries, if most allows. With most at least the
+ * total waiting, all cards afterwards agree on every counter's value and holders.
+ */
+struct yelansub_delivered yelansub_deliver_pending(uint64_t cards, uint64_t counters,
+                                                   uint64_t log_bytes, uint64_t most,
+                                                   uint64_t *words, size_t words_len,
+                                                   const uint8_t *logs, size_t logs_len);
 
 #ifdef __cplusplus
 }

@@ -194,6 +194,11 @@ static int refused(struct yelansub_cleared made, uint64_t number)
     return made.number == number && !made.value && !made.sequence && !made.length;
 }
 
+static int none_delivered(struct yelansub_delivered delivered, uint64_t number)
+{
+    return delivered.number == number && !delivered.deliveries;
+}
+
 /* Null and a pointer to nothing, with length 0, for every buffer of every export. */
 static void no_memory(void)
 {
@@ -234,6 +239,10 @@ static void no_memory(void)
         HOLD(yelansub_run_records(2, 1, UINT64_C(1) << 63, p, 0, both, 2 * len, p, 0, p, 0) == YELANSUB_BAD_SIZES);
         HOLD(yelansub_run_records(1, 1, 0, p, 0, p, 0, p, 0, p, 0) == YELANSUB_BAD_SIZES);
         HOLD(yelansub_run_records(2, 1, 0, p, 0, both, 2 * len, p, 0, p, 0) == YELANSUB_OK);
+        HOLD(none_delivered(yelansub_deliver_pending(1, 1, 0, 1, p, 0, p, 0), YELANSUB_BAD_SIZES));
+        HOLD(none_delivered(yelansub_deliver_pending(2, 1, 0, 1, both, 2 * len, p, 0), YELANSUB_OK));
+        HOLD(none_delivered(yelansub_deliver_pending(2, 1, UINT64_C(1) << 63, 1, both, 2 * len, p, 0),
+                            YELANSUB_BAD_SIZES));
     }
     HOLD(unchanged(&page));
     drop(&page);
@@ -558,6 +567,44 @@ static void put_front(uint8_t *bytes, size_t length)
         put_message(bytes, &m);
 }
 
+/* A log that is every part of a message, where its card has made one. Alone that card delivers nothing. A second card
+   takes an increment and an empty clear; for others the link is passed over. */
+static void exact_logs(int at_end)
+{
+    for (size_t entries = 0; entries <= YELANSUB_MOST_CARDS + 1; entries++) {
+        int is_clear = entries <= YELANSUB_MOST_CARDS;
+        struct yelansub_message message =
+            is_clear ? message_of(YELANSUB_MESSAGE_CLEAR, entries) : message_of(YELANSUB_MESSAGE_INCREMENT, 0);
+        uint8_t bytes[YELANSUB_LONGEST_MESSAGE];
+        message.sender = message.counter = 0;
+        message.sequence = 1;
+        message.p = !is_clear;
+        size_t whole = put_message(bytes, &message);
+        for (size_t log = 0; log <= whole + 2; log++)
+            for (unsigned cards = 1; cards <= 2; cards++) {
+                size_t each = YELANSUB_REPLICA_WORDS(cards, 1), len = cards * each;
+                struct area w = area(len * sizeof(uint64_t), at_end), l = area(cards * log, at_end);
+                uint64_t *words = in(&w);
+                doing = "deliveries from a log of every length";
+                for (unsigned i = 0; i < cards; i++)
+                    HOLD(yelansub_open(words + i * each, each, cards, 1, i) == YELANSUB_OK);
+                words[messages_at(cards, 0)] = 1;
+                memcpy(in(&l), bytes, log < whole ? log : whole);
+                keep(&w);
+                keep(&l);
+                struct yelansub_delivered delivered =
+                    yelansub_deliver_pending(cards, 1, log, UINT64_MAX, words, len, in(&l), cards * log);
+                HOLD(unchanged(&l));
+                if (log >= whole && cards == 2 && (!is_clear || entries == 0))
+                    HOLD(delivered.number == YELANSUB_OK && delivered.deliveries == 1 && only(&w, w.len));
+                else
+                    HOLD(none_delivered(delivered, log < whole ? YELANSUB_BAD_LOG : YELANSUB_OK) && unchanged(&w));
+                drop(&w);
+                drop(&l);
+            }
+    }
+}
+
 /* Bytes of every length, good at the front or not, to take, read_message and waiting. */
 static void odd_bytes(int at_end)
 {
@@ -614,13 +661,97 @@ static void odd_bytes(int at_end)
     drop(&w);
 }
 
-#define LAST_ANSWER YELANSUB_LOG_FULL /* the greatest number there is */
+#define LAST_ANSWER YELANSUB_BAD_LOG /* the greatest number there is */
 static unsigned answered[LAST_ANSWER + 1]; /* how often a step gave each number */
 
 /* The last of the kinds of step, which are numbered from 1. */
 enum { LAST_KIND = YELANSUB_STEP_READ_AND_CLEAR };
 
 static unsigned values; /* how often a step read one that is not 0 */
+
+static unsigned pumped[LAST_ANSWER + 1]; /* how often delivering what waits gave each number */
+static unsigned passed_over;             /* and left something waiting below its most */
+
+/* The messages that wait on all links. */
+static uint64_t total_waiting(const uint64_t *words, size_t cards, size_t each)
+{
+    uint64_t total = 0;
+    for (size_t to = 0; to < cards; to++)
+        for (size_t from = 0; from < cards; from++)
+            total += words[from * each + messages_at(cards, from)] - words[to * each + messages_at(cards, from)];
+    return total;
+}
+
+/* Where the counter of a message has its last byte. */
+enum { COUNTER_END = 23 };
+
+/* One word or one log byte becomes another; of a message in a log, as a rule, its counter. */
+static void damage(uint64_t *words, size_t cards, size_t each, uint8_t *logs, uint64_t log)
+{
+    uint64_t *replica = words + any(cards) * each;
+    uint8_t *bytes = logs + any(cards) * log;
+    struct yelansub_span message = yelansub_waiting(bytes, log, 1 + any(4));
+    switch (any(5)) {
+    case 0:
+        replica[any(each)] = any(3);
+        break;
+    case 1:
+        replica[messages_at(cards, any(cards))] += any(3) - UINT64_C(1);
+        break;
+    case 2:
+        if (log > 0)
+            bytes[any(log)] ^= (uint8_t)(1 << any(8));
+        break;
+    default:
+        if (message.length > 0)
+            bytes[message.start + COUNTER_END] = YELANSUB_MOST_COUNTERS - 1;
+    }
+}
+
+/* Delivers what waits in what a run has left: each size one off, then with nothing damaged, then with more and more. */
+static void pending(unsigned cards, unsigned counters, uint64_t log, struct area *w, struct area *l)
+{
+    size_t each = YELANSUB_REPLICA_WORDS(cards, counters), len = cards * each;
+    uint64_t *words = in(w);
+    keep(w);
+    keep(l);
+    doing = "refused deliveries";
+    for (unsigned wrong = 0; wrong < 5; wrong++) {
+        size_t lens[] = {len, cards * log};
+        uint64_t numbers[] = {cards, counters, log};
+        if (wrong < 2 && lens[wrong] == 0)
+            continue;
+        if (wrong < 2)
+            lens[wrong]--;
+        else
+            numbers[wrong - 2]++;
+        HOLD(none_delivered(yelansub_deliver_pending(numbers[0], numbers[1], numbers[2], UINT64_MAX, words, lens[0],
+                                                     in(l), lens[1]), YELANSUB_BAD_SIZES));
+        HOLD(unchanged(w) && unchanged(l));
+        pumped[YELANSUB_BAD_SIZES]++;
+    }
+    for (unsigned wounds = 0; wounds < 6; wounds++) {
+        doing = "deliveries";
+        if (wounds > 0)
+            damage(words, cards, each, in(l), log);
+        keep(w);
+        keep(l);
+        uint64_t before = total_waiting(words, cards, each), most = any(3) ? any(9) : UINT64_MAX;
+        struct yelansub_delivered delivered =
+            yelansub_deliver_pending(cards, counters, log, most, words, len, in(l), cards * log);
+        HOLD(delivered.number <= LAST_ANSWER && unchanged(l));
+        pumped[delivered.number]++;
+        if (delivered.number != YELANSUB_OK) {
+            HOLD(!delivered.deliveries && unchanged(w));
+            continue;
+        }
+        uint64_t left = total_waiting(words, cards, each);
+        HOLD(delivered.deliveries <= most && delivered.deliveries == before - left && only(w, w->len));
+        HOLD(delivered.deliveries > 0 || unchanged(w));
+        HOLD(wounds > 0 || delivered.deliveries == (most < before ? most : before));
+        passed_over += delivered.deliveries < most && left > 0;
+    }
+}
 
 /* Runs of odd steps in exact buffers, by bytes and by records, and each size one off. */
 static void runs(unsigned cards, unsigned counters, uint64_t log, size_t steps, int at_end)
@@ -684,6 +815,7 @@ static void runs(unsigned cards, unsigned counters, uint64_t log, size_t steps, 
     HOLD(memcmp(kept[2].pages, a.pages, a.size) == 0);
     for (int i = 0; i < 3; i++)
         drop(&kept[i]);
+    pending(cards, counters, log, &w, &l);
     for (size_t i = 0; i < sizeof all / sizeof *all; i++)
         drop(all[i]);
 }
@@ -697,24 +829,36 @@ static void refused_sizes(uint64_t cards, uint64_t counters, int at_end)
     doing = "run with sizes out of range";
     HOLD(yelansub_run(cards, counters, 0, NULL, 0, in(&w), len, NULL, 0, NULL, 0) == YELANSUB_BAD_SIZES);
     HOLD(yelansub_run_records(cards, counters, 0, NULL, 0, in(&w), len, NULL, 0, NULL, 0) == YELANSUB_BAD_SIZES);
+    HOLD(none_delivered(yelansub_deliver_pending(cards, counters, 0, 1, in(&w), len, NULL, 0), YELANSUB_BAD_SIZES));
     HOLD(unchanged(&w));
     drop(&w);
 }
 
+/* Each of these numbers was met, and no other. */
+static void exactly(const unsigned *met, const unsigned *given, size_t len)
+{
+    for (unsigned number = 0; number <= LAST_ANSWER; number++) {
+        int can = 0;
+        for (size_t i = 0; i < len; i++)
+            can |= given[i] == number;
+        HOLD((met[number] > 0) == can);
+    }
+}
+
 /* Every number that a step can give was given, and no other. YELANSUB_EXHAUSTED needs YELANSUB_MAX messages of one
-   card first. */
+   card first. The same of delivering what waits. */
 static void all_answers(void)
 {
     static const unsigned given[] = {YELANSUB_OK, YELANSUB_BAD_COUNTER, YELANSUB_BAD_CARD, YELANSUB_BAD_KIND,
                                      YELANSUB_NOTHING_WAITING, YELANSUB_LOG_FULL};
+    static const unsigned to_pump[] = {YELANSUB_OK, YELANSUB_BAD_REPLICA, YELANSUB_BAD_ROW, YELANSUB_BAD_SIZES,
+                                       YELANSUB_BAD_LOG};
     doing = "answers of steps";
-    for (unsigned number = 0; number <= LAST_ANSWER; number++) {
-        int can = 0;
-        for (size_t i = 0; i < sizeof given / sizeof *given; i++)
-            can |= given[i] == number;
-        HOLD((answered[number] > 0) == can);
-    }
+    exactly(answered, given, sizeof given / sizeof *given);
     HOLD(values > 0);
+    doing = "answers of deliveries";
+    exactly(pumped, to_pump, sizeof to_pump / sizeof *to_pump);
+    HOLD(passed_over > 0);
 }
 
 int main(void)
@@ -731,6 +875,7 @@ int main(void)
                 exact_buffers(cards, 7, making[of], at_end);
                 exact_buffers(cards, YELANSUB_MOST_COUNTERS, making[of], at_end);
             }
+        exact_logs(at_end);
         odd_bytes(at_end);
         for (unsigned round = 0; round < 300; round++)
             runs(1 + (unsigned)any(4), 1 + (unsigned)any(3), any(3) ? 400 : any(80), any(50), at_end);

@@ -73,6 +73,10 @@ FIELD(yelansub_step, kind, 0, 4);
 FIELD(yelansub_step, first, 4, 4);
 FIELD(yelansub_step, second, 8, 4);
 
+STRUCT(yelansub_delivered, 16, 8);
+FIELD(yelansub_delivered, number, 0, 8);
+FIELD(yelansub_delivered, deliveries, 8, 8);
+
 /* The message format says what the header says. */
 static_assert(FORMAT_MESSAGE_VERSION == YELANSUB_MESSAGE_VERSION, "version");
 static_assert(FORMAT_INCREMENT == YELANSUB_MESSAGE_INCREMENT, "kind of an increment");

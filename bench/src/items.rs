@@ -1,5 +1,5 @@
 //! What is timed: for each item the same work done by each side, on a state made once and put
-//! back before every batch. The largest chassis throughout.
+//! back before every batch. The largest chassis throughout, but for some deliveries.
 
 use std::hint::black_box;
 use std::ops::Range;
@@ -35,6 +35,9 @@ pub struct State {
     steps: Vec<u8>,
     part: Range<usize>,
     answers: Vec<u64>,
+    /// Cards of the chassis that is run, and how many deliveries are made there at most.
+    cards: usize,
+    most: u64,
 }
 
 impl State {
@@ -168,6 +171,50 @@ pub fn runs() -> Vec<Item> {
     ]
 }
 
+/// What waits after a run, delivered; a call is one delivery. Beside each, the steps of that run: the
+/// deliveries as steps are what a run takes longer with them.
+pub fn deliveries() -> Vec<(Item, Item)> {
+    let item = |name: &str, calls, make: [fn() -> State; 2], call: [Work; 2]| {
+        let ([deliver, before], [library, reference]) = (make, call);
+        let sides = vec![("library", library), ("reference", reference), (AS_STEPS, library_run)];
+        let name = format!("deliver {name}");
+        let run = Item {
+            name: format!("{name}: the run before"),
+            calls,
+            long: true,
+            make: before,
+            sides: vec![("library", library_run as Work)],
+        };
+        (Item { name, calls, long: true, make: deliver, sides }, run)
+    };
+    let at_once: [Work; 2] = [library_deliver, reference_deliver];
+    let one_by_one: [Work; 2] = [library_deliver_one_by_one, reference_deliver_one_by_one];
+    let all = |cards: usize| (cards * (cards - 1) * MADE) as u64;
+    let in_turn = ONE_BY_ONE as u64;
+    vec![
+        item("all, 2 cards", all(2), [|| waiting(2, ALL), || waiting(2, 0)], at_once),
+        item("all, 4 cards", all(4), [|| waiting(4, ALL), || waiting(4, 0)], at_once),
+        item("all, 16 cards", all(16), [|| waiting(16, ALL), || waiting(16, 0)], at_once),
+        item("all of one link", MADE as u64, [|| one_link(ALL), || one_link(0)], at_once),
+        item("1 a call, long logs", in_turn, [in_calls_of_one, || waiting(16, 0)], one_by_one),
+    ]
+}
+
+pub const AS_STEPS: &str = "as steps";
+
+/// A call that finds nothing waiting, of cards that have made nothing: its checks.
+pub fn none_waiting() -> Item {
+    let sides: [(&str, Work); 2] =
+        [("library", library_deliver_one_by_one), ("reference", reference_deliver_one_by_one)];
+    Item {
+        name: "deliver none, 16 cards".to_string(),
+        calls: ONE_BY_ONE as u64,
+        long: true,
+        make: || pump(CARDS, &[], &[], ALL),
+        sides: sides.to_vec(),
+    }
+}
+
 fn each(state: &mut State, call: fn(&mut State, usize)) {
     for counter in 0..COUNTERS {
         call(state, counter);
@@ -191,6 +238,8 @@ fn blank() -> State {
         steps: Vec::new(),
         part: 0..0,
         answers: Vec::new(),
+        cards: CARDS,
+        most: 0,
     }
 }
 
@@ -283,6 +332,93 @@ fn steps(len: usize, clear: fn(u32, u32) -> Step) -> State {
     state.logs = vec![0; CARDS * LOG_BYTES];
     state.answers = vec![0; ANSWER_WORDS * len];
     state
+}
+
+/// Messages that a card has made before what waits is delivered.
+const MADE: usize = 1_000;
+/// More than wait anywhere.
+const ALL: u64 = u64::MAX;
+/// Calls of one delivery each; each begins again at the first link.
+const ONE_BY_ONE: usize = 200;
+
+/// Every card has made its messages, one in eight a clear, and none has been delivered. Then at most
+/// `most` are: as steps, which stand behind those that make the messages.
+fn waiting(cards: usize, most: u64) -> State {
+    let mut random = Random::new(4);
+    let mut made = Vec::new();
+    for card in (0..MADE).flat_map(|_| 0..cards as u32) {
+        let counter = random.below(4) as u32;
+        let step = if random.below(8) == 0 { Step::clear } else { Step::count };
+        made.push(step(card, counter));
+    }
+    let delivered = in_rounds(cards, &made, most);
+    pump(cards, &made, &delivered, most)
+}
+
+fn in_calls_of_one() -> State {
+    let mut state = waiting(CARDS, 0);
+    state.most = 1;
+    let deliver = Step::deliver(0, 1).to_bytes();
+    state.steps.extend([deliver; ONE_BY_ONE].as_flattened());
+    state.part = 0..state.steps.len();
+    state.answers.extend([0; ANSWER_WORDS * ONE_BY_ONE]);
+    state
+}
+
+/// Of the messages of card 0 all have been delivered, but to the last card.
+fn one_link(most: u64) -> State {
+    let mut made = Vec::new();
+    for counter in (0..MADE).map(|place| place as u32 % 4) {
+        made.push(Step::count(0, counter));
+        made.extend((1..CARDS as u32 - 1).map(|card| Step::deliver(card, 0)));
+    }
+    let delivered = in_rounds(CARDS, &made, most);
+    pump(CARDS, &made, &delivered, most)
+}
+
+/// The words and logs after these steps; for a run, the steps with the deliveries behind them.
+fn pump(cards: usize, made: &[Step], delivered: &[Step], most: u64) -> State {
+    let mut state = blank();
+    (state.cards, state.most) = (cards, most);
+    state.kept = vec![0; cards * replica_words(cards, COUNTERS)];
+    state.words = state.kept.clone();
+    state.logs = vec![0; cards * LOG_BYTES];
+    state.steps = made.iter().flat_map(|step| step.to_bytes()).collect();
+    state.part = 0..state.steps.len();
+    state.answers = vec![0; ANSWER_WORDS * made.len()];
+    reference_run(&mut state);
+    assert!(state.answers.iter().all(|word| *word == 0), "every step is accepted");
+    state.kept = state.words.clone();
+    state.steps.extend(delivered.iter().flat_map(|step| step.to_bytes()));
+    state.part = 0..state.steps.len();
+    state.answers = vec![0; ANSWER_WORDS * (made.len() + delivered.len())];
+    state
+}
+
+/// The deliveries after these steps, by counting what was made and what each card has had.
+fn in_rounds(cards: usize, made: &[Step], most: u64) -> Vec<Step> {
+    let mut waiting = vec![vec![0; cards]; cards];
+    for step in made {
+        if step.kind == STEP_DELIVER {
+            waiting[step.first as usize][step.second as usize] -= 1;
+        } else {
+            let others = (0..cards).filter(|card| *card != step.first as usize);
+            others.for_each(|card| waiting[card][step.first as usize] += 1);
+        }
+    }
+    let mut delivered = Vec::new();
+    while waiting.iter().flatten().any(|waiting| *waiting > 0) {
+        for (receiver, waiting) in waiting.iter_mut().enumerate() {
+            for (sender, waiting) in waiting.iter_mut().enumerate() {
+                if *waiting > 0 {
+                    *waiting -= 1;
+                    delivered.push(Step::deliver(receiver as u32, sender as u32));
+                }
+            }
+        }
+    }
+    delivered.truncate(most.min(delivered.len() as u64) as usize);
+    delivered
 }
 
 // The calls. Both sides are real calls: nothing is inlined into the loop.
@@ -396,16 +532,39 @@ fn rpcgen_write(s: &mut State, counter: usize) {
 }
 
 fn library_run(s: &mut State) {
-    let (r, k, l) = (CARDS as u64, COUNTERS as u64, LOG_BYTES as u64);
+    let (r, k, l) = (s.cards as u64, COUNTERS as u64, LOG_BYTES as u64);
     let lent = Buffers { words: &mut s.words, logs: &mut s.logs, answers: &mut s.answers };
     black_box(library::run(r, k, l, &s.steps[s.part.clone()], lent));
 }
 
 #[inline(never)]
 fn reference_run(s: &mut State) {
-    let (r, k, l) = (CARDS as u64, COUNTERS as u64, LOG_BYTES as u64);
+    let (r, k, l) = (s.cards as u64, COUNTERS as u64, LOG_BYTES as u64);
     let lent = Buffers { words: &mut s.words, logs: &mut s.logs, answers: &mut s.answers };
     let _ = black_box(chassis::run(r, k, l, &s.steps[s.part.clone()], lent));
+}
+
+fn library_deliver(s: &mut State) {
+    let (r, k, l) = (s.cards as u64, COUNTERS as u64, LOG_BYTES as u64);
+    black_box(library::deliver_pending(r, k, l, s.most, &mut s.words, &s.logs));
+}
+
+#[inline(never)]
+fn reference_deliver(s: &mut State) {
+    let (r, k, l) = (s.cards as u64, COUNTERS as u64, LOG_BYTES as u64);
+    let _ = black_box(chassis::deliver_pending(r, k, l, s.most, &mut s.words, &s.logs));
+}
+
+fn library_deliver_one_by_one(s: &mut State) {
+    for _ in 0..ONE_BY_ONE {
+        library_deliver(s);
+    }
+}
+
+fn reference_deliver_one_by_one(s: &mut State) {
+    for _ in 0..ONE_BY_ONE {
+        reference_deliver(s);
+    }
 }
 
 /// What every side of an item leaves behind, for a check that all did the same work.

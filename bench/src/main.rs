@@ -48,15 +48,35 @@ fn everything() {
         };
         println!("{:38} library {:8.1}   reference {:8.1}", run.name, a_step(0), a_step(1));
     }
+    println!("\nA delivery; as a step, what a run takes longer with it:");
+    for (item, before) in items::deliveries() {
+        let rounds = rounds_of_deliveries(&item);
+        let (mut times, before) = (least(&item, rounds), least(&before, rounds)[0]);
+        for ((side, _), time) in item.sides.iter().zip(&mut times) {
+            if *side == items::AS_STEPS {
+                *time = time.saturating_sub(before);
+            }
+        }
+        print(&item, &times);
+    }
+    let none = items::none_waiting();
+    print(&none, &least(&none, rounds_of_deliveries(&none)));
 }
 
 fn rounds_of(run: &Item) -> u32 {
     (2_000_000 / run.calls.max(1_000)) as u32
 }
 
+/// Those of a delivery and of the run before it.
+fn rounds_of_deliveries(item: &Item) -> u32 {
+    (1_000_000 / item.calls).clamp(20, 100) as u32
+}
+
 /// All sides that change the state leave it the same, and all read and write the same messages.
 fn check() {
-    for item in items::calls().iter().chain(&items::runs()) {
+    let deliveries = items::deliveries().into_iter().map(|(item, _)| item);
+    let none = [items::none_waiting()];
+    for item in items::calls().into_iter().chain(items::runs()).chain(deliveries).chain(none) {
         let mut states: Vec<State> = item.sides.iter().map(|_| (item.make)()).collect();
         for (state, (_, work)) in states.iter_mut().zip(&item.sides) {
             bench_work(state, *work);
@@ -109,6 +129,8 @@ fn all() -> Vec<Item> {
     let mut all = items::calls();
     all.extend(items::messages());
     all.extend(items::runs());
+    all.extend(items::deliveries().into_iter().flat_map(|(item, before)| [item, before]));
+    all.push(items::none_waiting());
     all
 }
 

@@ -1,4 +1,4 @@
-//! SPECIFICATION 6: the waiting message of a log, and a run of steps.
+//! SPECIFICATION 6: the waiting message of a log, a run of steps, and delivering what waits.
 
 use core::ops::Range;
 
@@ -107,24 +107,16 @@ fn run_each(
     steps: impl Iterator<Item = Step>,
     lent: Buffers,
 ) -> Result<(), u64> {
-    let limits = (1..=MOST_CARDS as u64).contains(&r) && (1..=MOST_COUNTERS as u64).contains(&k);
-    if !limits {
-        return Err(BAD_SIZES);
-    }
-    let (cards, counters) = (r as usize, k as usize);
-    let each = replica_words(cards, counters);
-    let sizes = lent.words.len() == cards * each
-        && lent.logs.len() as u128 == u128::from(r) * u128::from(log_bytes)
-        && lent.answers.len() == ANSWER_WORDS * len;
-    if !sizes {
+    let each = words_each(r, k, log_bytes, lent.words.len(), lent.logs.len())?;
+    if lent.answers.len() != ANSWER_WORDS * len {
         return Err(BAD_SIZES);
     }
     for (card, words) in lent.words.chunks_exact_mut(each).enumerate() {
         replica::open(words, r, k, card as u64)?;
     }
     let mut chassis = Chassis {
-        cards,
-        counters,
+        cards: r as usize,
+        counters: k as usize,
         each,
         log_bytes: log_bytes as usize,
         words: lent.words,
@@ -136,6 +128,19 @@ fn run_each(
         *answer = chassis.step(step).map_or_else(|number| [number, 0], |value| [OK, value]);
     }
     Ok(())
+}
+
+/// Words of each card's replica, where r replicas and r logs have these lengths; refused with 11.
+fn words_each(r: u64, k: u64, log_bytes: u64, words: usize, logs: usize) -> Result<usize, u64> {
+    let limits = (1..=MOST_CARDS as u64).contains(&r) && (1..=MOST_COUNTERS as u64).contains(&k);
+    if !limits {
+        return Err(BAD_SIZES);
+    }
+    let each = replica_words(r as usize, k as usize);
+    if words != r as usize * each || logs as u128 != u128::from(r) * u128::from(log_bytes) {
+        return Err(BAD_SIZES);
+    }
+    Ok(each)
 }
 
 struct Chassis<'a> {
@@ -202,4 +207,89 @@ impl Chassis<'_> {
         self.next[receiver][sender] = from + message.length();
         Ok(())
     }
+}
+
+/// A link with messages waiting.
+struct Link {
+    receiver: usize,
+    sender: usize,
+    /// Where in the sender's log the next of them stands, and how many they are.
+    next: usize,
+    waiting: u64,
+}
+
+/// Delivers what waits, in rounds, and at most `most` messages: receivers rising, within each the
+/// senders rising, one message from each link that has one. A link whose message take declines is
+/// passed over from then on. Gives how many deliveries were made; refused with 11, 1, 2, 15.
+pub fn deliver_pending(
+    r: u64,
+    k: u64,
+    log_bytes: u64,
+    most: u64,
+    words: &mut [u64],
+    logs: &[u8],
+) -> Result<u64, u64> {
+    let each = words_each(r, k, log_bytes, words.len(), logs.len())?;
+    let log_of = |card: usize| &logs[card * log_bytes as usize..][..log_bytes as usize];
+    if !words.chunks_exact(each).zip(0..).all(|(words, card)| words.starts_with(&[r, k, card])) {
+        return Err(BAD_REPLICA);
+    }
+    words.chunks_exact(each).try_for_each(replica::check_rows)?;
+    let mut links = Vec::new();
+    for sender in 0..r as usize {
+        let received = words.chunks_exact(each).map(|words| replica::received_from(words, sender));
+        find_links(log_of(sender), sender, &received.collect::<Vec<_>>(), &mut links)?;
+    }
+    links.sort_unstable_by_key(|link| (link.receiver, link.sender));
+
+    let mut deliveries = 0;
+    while deliveries < most && !links.is_empty() {
+        links.retain_mut(|link| {
+            if deliveries == most {
+                return true;
+            }
+            let log = &log_of(link.sender)[link.next..];
+            let message = message::read_front(log).expect("it was read before");
+            let words = &mut words[link.receiver * each..][..each];
+            if replica::take_message(words, &message).is_err() {
+                return false;
+            }
+            deliveries += 1;
+            link.next += message.length();
+            link.waiting -= 1;
+            link.waiting > 0
+        });
+    }
+    Ok(deliveries)
+}
+
+/// Walks a card's log to the end of its messages and finds the links on the way, told how many
+/// messages of it each card has received; refused with 15.
+fn find_links(
+    log: &[u8],
+    sender: usize,
+    received: &[u64],
+    links: &mut Vec<Link>,
+) -> Result<(), u64> {
+    let made = received[sender];
+    let mut receivers: Vec<usize> = (0..received.len()).collect();
+    receivers.sort_unstable_by_key(|receiver| received[*receiver]);
+    let (mut next, mut sequence) = (0, 0);
+    for receiver in receivers {
+        if received[receiver] > made {
+            return Err(BAD_LOG);
+        }
+        while sequence < received[receiver] {
+            sequence += 1;
+            let message = message::read_front(&log[next..]).ok_or(BAD_LOG)?;
+            if message.sender as usize != sender || message.sequence != sequence {
+                return Err(BAD_LOG);
+            }
+            next += message.length();
+        }
+        if sequence < made {
+            links.push(Link { receiver, sender, next, waiting: made - sequence });
+        }
+    }
+    Ok(())
 }

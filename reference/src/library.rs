@@ -87,6 +87,13 @@ pub struct Written {
     pub length: usize,
 }
 
+#[repr(C)]
+#[derive(Clone, Copy, Debug, Default, PartialEq, Eq)]
+pub struct Delivered {
+    pub number: u64,
+    pub deliveries: u64,
+}
+
 /// Holds a struct to a size, an alignment and the place of every field; one that is left out does
 /// not compile.
 macro_rules! laid_out {
@@ -115,9 +122,11 @@ laid_out!(MessageReading, 64 + 24 * MOST_CARDS, 8, { number: 0, message: 8 });
 laid_out!(Written, 16, 8, { number: 0, length: 8 });
 laid_out!(Span, 16, 8, { start: 0, length: 8 });
 laid_out!(Step, 12, 4, { kind: 0, first: 4, second: 8 });
+laid_out!(Delivered, 16, 8, { number: 0, deliveries: 8 });
 
 mod raw {
-    use super::{Cleared, Message, MessageReading, Reading, Sent, Span, Step, Taken, Written};
+    use super::{Cleared, Delivered, Reading, Sent, Span, Step, Taken};
+    use super::{Message, MessageReading, Written};
 
     extern "C" {
         pub fn yelansub_open(
@@ -184,6 +193,16 @@ mod raw {
             answers: *mut u64,
             answers_len: usize,
         ) -> u64;
+        pub fn yelansub_deliver_pending(
+            cards: u64,
+            counters: u64,
+            log_bytes: u64,
+            most: u64,
+            words: *mut u64,
+            words_len: usize,
+            logs: *const u8,
+            logs_len: usize,
+        ) -> Delivered;
     }
 }
 
@@ -289,6 +308,29 @@ fn run_by<S>(export: Run<S>, sizes: [u64; 3], steps: &[S], lent: Buffers) -> u64
             logs.len(),
             lend_mut(answers),
             answers.len(),
+        )
+    }
+}
+
+pub fn deliver_pending(
+    cards: u64,
+    counters: u64,
+    log_bytes: u64,
+    most: u64,
+    words: &mut [u64],
+    logs: &[u8],
+) -> Delivered {
+    let (at, len) = (lend_mut(words), words.len());
+    unsafe {
+        raw::yelansub_deliver_pending(
+            cards,
+            counters,
+            log_bytes,
+            most,
+            at,
+            len,
+            lend(logs),
+            logs.len(),
         )
     }
 }

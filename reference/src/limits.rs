@@ -67,3 +67,5 @@ pub const BAD_KIND: u64 = 12;
 pub const NOTHING_WAITING: u64 = 13;
 /// Log too short for the message.
 pub const LOG_FULL: u64 = 14;
+/// A log does not begin with its card's messages, or a receiver's N is above its sender's.
+pub const BAD_LOG: u64 = 15;

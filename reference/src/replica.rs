@@ -148,19 +148,38 @@ impl<'a> Row<'a> {
     }
 
     fn check(self) -> Result<Row<'a>, u64> {
-        let counted = self.increments.iter().zip(self.messages).all(|(c, n)| c <= n && *n <= MAX);
-        let own = self.cell(self.own).c <= self.increments[self.own];
-        if counted && own && self.cells().all(Cell::well_formed) {
+        if self.counted() && self.entered() {
             Ok(self)
         } else {
             Err(BAD_ROW)
         }
+    }
+
+    /// Of C and N, which all rows share.
+    fn counted(&self) -> bool {
+        self.increments.iter().zip(self.messages).all(|(c, n)| c <= n && *n <= MAX)
+    }
+
+    /// Of the row's own entries.
+    fn entered(&self) -> bool {
+        self.cell(self.own).c <= self.increments[self.own] && self.cells().all(Cell::well_formed)
     }
 }
 
 /// N of the sender, in words that are a replica.
 pub fn received_from(words: &[u64], sender: usize) -> u64 {
     words[messages_at(words[CARDS_AT] as usize, sender)]
+}
+
+/// Every row is well-formed; refused with 1, 2.
+pub fn check_rows(words: &[u64]) -> Result<(), u64> {
+    let shape = Shape::of(words)?;
+    let row = |counter| Row::of(words, shape, counter);
+    if row(0).counted() && (0..shape.counters).all(|counter| row(counter).entered()) {
+        Ok(())
+    } else {
+        Err(BAD_ROW)
+    }
 }
 
 /// Writes a fresh replica; only refused with 1.

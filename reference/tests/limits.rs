@@ -5,7 +5,7 @@ use std::fmt::Debug;
 
 use yelansub_reference::chassis::{self, Answer, Buffers, Step};
 use yelansub_reference::differential::generate::Draft;
-use yelansub_reference::differential::{cleared, number, reading, taken};
+use yelansub_reference::differential::{cleared, delivered, number, reading, taken};
 use yelansub_reference::differential::{Sending, CLEAR, COUNT, READ_AND_CLEAR, SENDING};
 use yelansub_reference::limits::*;
 use yelansub_reference::replica::{self, entry_at, increments_at, messages_at};
@@ -85,6 +85,56 @@ fn run(cards: u64, counters: u64, log_bytes: usize, steps: &[Step]) -> (u64, Vec
     assert_eq!(theirs, records, "{steps:?}");
     agree(&(cards, counters, steps), [theirs.0, ours.0], theirs.0, [&theirs.1, &ours.1], &before);
     (theirs.0, theirs.1 .2)
+}
+
+/// Sizes, words and logs for delivering what waits.
+#[derive(Clone)]
+struct Lent {
+    cards: u64,
+    counters: u64,
+    log_bytes: u64,
+    words: Vec<u64>,
+    logs: Vec<u8>,
+}
+
+impl Lent {
+    /// The number, and how many deliveries were made.
+    fn deliver_pending(&mut self, most: u64) -> (u64, u64) {
+        let (r, k, log) = (self.cards, self.counters, self.log_bytes);
+        let (before, logs) = (self.words.clone(), self.logs.clone());
+        let (mut ours, mut theirs) = (before.clone(), before.clone());
+        let answer = library::deliver_pending(r, k, log, most, &mut theirs, &self.logs);
+        let due = delivered(chassis::deliver_pending(r, k, log, most, &mut ours, &logs));
+        agree(&(r, k, log, most), [answer, due], answer.number, [&theirs, &ours], &before);
+        assert_eq!(self.logs, logs);
+        self.words = theirs;
+        (answer.number, answer.deliveries)
+    }
+
+    /// What the call answers after a change, with nothing delivered.
+    fn number_with(&self, change: impl FnOnce(&mut Lent)) -> u64 {
+        let mut lent = self.clone();
+        change(&mut lent);
+        let (number, deliveries) = lent.deliver_pending(0);
+        assert_eq!(deliveries, 0);
+        assert_eq!(lent.deliver_pending(u64::MAX).0, number);
+        number
+    }
+
+    fn replica(&mut self, card: usize) -> &mut [u64] {
+        let each = replica_words(self.cards as usize, self.counters as usize);
+        &mut self.words[card * each..][..each]
+    }
+
+    fn log(&mut self, card: usize) -> &mut [u8] {
+        &mut self.logs[card * self.log_bytes as usize..][..self.log_bytes as usize]
+    }
+
+    /// Message number q of the card, an increment among increments, becomes this.
+    fn rewrite(&mut self, card: usize, q: usize, draft: Draft) {
+        let at = (q - 1) * INCREMENT_BYTES;
+        self.log(card)[at..at + INCREMENT_BYTES].copy_from_slice(&draft.bytes());
+    }
 }
 
 // ---- r, k and the own card
@@ -631,4 +681,268 @@ fn messages_of_a_log() {
     }
     assert_eq!(waiting(&log[..log.len() - 1], 3), (0, 0));
     assert_eq!(waiting(&log[..log.len() - 1], 2), (INCREMENT_BYTES, LONGEST_MESSAGE));
+}
+
+// ---- delivering what waits
+
+/// Three cards and two counters, every card with two counts that no other has: twelve messages wait.
+/// The logs have room for a third, where nothing stands.
+fn two_of_each() -> Lent {
+    let steps: Vec<Step> =
+        (0..3).flat_map(|card| [Step::count(card, 0), Step::count(card, 1)]).collect();
+    let log_bytes = 3 * INCREMENT_BYTES;
+    let mut lent = Lent {
+        cards: 3,
+        counters: 2,
+        log_bytes: log_bytes as u64,
+        words: vec![9; 3 * replica_words(3, 2)],
+        logs: vec![0; 3 * log_bytes],
+    };
+    let mut answers = vec![9; ANSWER_WORDS * steps.len()];
+    let (words, logs, answers) = (&mut lent.words, &mut lent.logs, &mut answers);
+    let lent_to_run = Buffers { words, logs, answers };
+    assert_eq!(library::run_records(3, 2, log_bytes as u64, &steps, lent_to_run), OK);
+    lent
+}
+
+/// Message number q of the card there: its first count is on counter 0, its second on counter 1.
+fn count_of(card: usize, q: u64) -> Draft {
+    let (sender, counter) = (card as u32, q as u32 - 1);
+    Draft { sender, sequence: q, counter, p: q, start: 1, ..next_of_card_0() }
+}
+
+#[test]
+fn deliveries_up_to_the_most() {
+    for most in (0..15).chain([u64::from(u32::MAX), 1 << 32, 1 << 63, u64::MAX]) {
+        let mut lent = two_of_each();
+        assert_eq!(lent.deliver_pending(most), (OK, most.min(12)));
+        // What each card has of each: in rounds of six, to card 0 from 1 and from 2, and so on.
+        let links = [(0, 1), (0, 2), (1, 0), (1, 2), (2, 0), (2, 1)];
+        for (at, (receiver, sender)) in links.into_iter().enumerate() {
+            let due = (most.saturating_sub(at as u64).div_ceil(6)).min(2);
+            assert_eq!(lent.replica(receiver)[messages_at(3, sender)], due, "{most}");
+        }
+        assert_eq!(lent.deliver_pending(u64::MAX), (OK, 12 - most.min(12)));
+        assert_eq!(lent.deliver_pending(u64::MAX), (OK, 0));
+        for counter in 0..2 {
+            let read = |card: usize| library::read(lent.clone().replica(card), counter);
+            let due = library::Reading { number: OK, value: 3, holders: 7, holder_count: 3 };
+            assert_eq!([0, 1, 2].map(read), [due; 3]);
+        }
+    }
+}
+
+#[test]
+fn deliveries_within_the_limits_and_with_their_lengths() {
+    for ([cards, counters, own], _) in heads() {
+        if own != 0 {
+            continue;
+        }
+        let words = (0..cards).flat_map(|own| {
+            let mut words = vec![0; replica_words(cards as usize, counters as usize)];
+            (words[CARDS_AT], words[COUNTERS_AT], words[OWN_AT]) = (cards, counters, own);
+            words
+        });
+        let words = words.collect();
+        let lent = Lent { cards, counters, log_bytes: 0, words, logs: Vec::new() };
+        let right = (1..=CARDS).contains(&cards) && (1..=COUNTERS).contains(&counters);
+        let due = if right { OK } else { BAD_SIZES };
+        assert_eq!(lent.number_with(|_| {}), due, "{cards} {counters}");
+    }
+    let lent = two_of_each();
+    assert_eq!(lent.number_with(|_| {}), OK);
+    assert_eq!(lent.number_with(|lent| lent.words.push(0)), BAD_SIZES);
+    assert_eq!(lent.number_with(|lent| lent.words.truncate(lent.words.len() - 1)), BAD_SIZES);
+    assert_eq!(lent.number_with(|lent| lent.words.clear()), BAD_SIZES);
+    assert_eq!(lent.number_with(|lent| lent.logs.push(0)), BAD_SIZES);
+    assert_eq!(lent.number_with(|lent| lent.logs.truncate(lent.logs.len() - 1)), BAD_SIZES);
+    assert_eq!(lent.number_with(|lent| lent.logs.clear()), BAD_SIZES);
+    for log_bytes in [0, lent.log_bytes - 1, lent.log_bytes + 1, u64::MAX] {
+        assert_eq!(lent.number_with(|lent| lent.log_bytes = log_bytes), BAD_SIZES);
+    }
+    // Two logs of 2^63 bytes are 2^64, and none was lent.
+    let words = [0, 1].map(|own| {
+        let mut words = vec![0; replica_words(2, 1)];
+        assert_eq!(library::open(&mut words, 2, 1, own), OK);
+        words
+    });
+    let (words, logs) = (words.concat(), Vec::new());
+    let lent = Lent { cards: 2, counters: 1, log_bytes: 1 << 63, words, logs };
+    assert_eq!(lent.number_with(|_| {}), BAD_SIZES);
+    assert_eq!(lent.number_with(|lent| lent.log_bytes = 0), OK);
+}
+
+#[test]
+fn one_card_has_no_link() {
+    let (mut words, logs) = (vec![0; replica_words(1, 1)], vec![9; INCREMENT_BYTES]);
+    assert_eq!(library::open(&mut words, 1, 1, 0), OK);
+    let log_bytes = logs.len() as u64;
+    let mut lent = Lent { cards: 1, counters: 1, log_bytes, words, logs };
+    assert_eq!(lent.deliver_pending(u64::MAX), (OK, 0));
+    assert_eq!(library::count(&mut lent.words, 0, &mut lent.logs).number, OK);
+    assert_eq!(lent.deliver_pending(u64::MAX), (OK, 0));
+    lent.logs[0] ^= 1;
+    assert_eq!(lent.deliver_pending(u64::MAX), (BAD_LOG, 0));
+}
+
+#[test]
+fn replicas_of_these_sizes_in_their_place() {
+    let lent = two_of_each();
+    for card in 0..3 {
+        for (at, right) in [(CARDS_AT, 3), (COUNTERS_AT, 2), (OWN_AT, card as u64)] {
+            for word in [0, 1, 2, 3, 4, u64::MAX] {
+                let due = if word == right { OK } else { BAD_REPLICA };
+                let number = lent.number_with(|lent| lent.replica(card)[at] = word);
+                assert_eq!(number, due, "card {card}, word {at}: {word}");
+            }
+        }
+    }
+    let each = replica_words(3, 2);
+    assert_eq!(lent.number_with(|lent| lent.words.rotate_left(each)), BAD_REPLICA);
+}
+
+#[test]
+fn every_row_of_every_replica() {
+    let lent = two_of_each();
+    for (card, of) in (0..9).map(|place| (place / 3, place % 3)) {
+        let set = |at: usize, word| lent.number_with(|lent| lent.replica(card)[at] = word);
+        assert_eq!(set(increments_at(of), 3), BAD_ROW, "C above N");
+        assert_eq!(set(messages_at(3, of), MAX + 1), BAD_ROW);
+        for counter in 0..2 {
+            let entry = entry_at(3, counter, of);
+            // No entry that is there, absent or not, stays well-formed with one of these.
+            assert_eq!(set(entry.start, 3), BAD_ROW, "p above c");
+            assert_eq!(set(entry.start + 1, 3), BAD_ROW, "n above p");
+            assert_eq!(set(entry.start + 2, MAX + 1), BAD_ROW);
+            let due = if card == of { BAD_ROW } else { OK };
+            let number =
+                lent.number_with(|lent| lent.replica(card)[entry].copy_from_slice(&[3, 0, 3]));
+            assert_eq!(number, due, "c above C, of card {of} on card {card}");
+        }
+    }
+}
+
+#[test]
+fn logs_that_begin_with_what_was_made() {
+    let lent = two_of_each();
+    let own = |card: usize| messages_at(3, card);
+    for card in 0..3 {
+        let other = (card + 1) % 3;
+        for q in [1, 2] {
+            let with =
+                |draft: Draft| lent.number_with(|lent| lent.rewrite(card, q as usize, draft));
+            let right = || count_of(card, q);
+            assert_eq!(with(right()), OK);
+            assert_eq!(with(Draft { version: MESSAGE_VERSION + 1, ..right() }), BAD_LOG);
+            assert_eq!(with(Draft { p: 0, ..right() }), BAD_LOG);
+            assert_eq!(with(Draft { counter: MOST_COUNTERS as u32, ..right() }), BAD_LOG);
+            assert_eq!(with(Draft { sender: other as u32, ..right() }), BAD_LOG);
+            for sequence in [0, 1, 2, 3, MAX, MAX + 1] {
+                let due = if sequence == q { OK } else { BAD_LOG };
+                assert_eq!(with(Draft { sequence, ..right() }), due, "{sequence} for {q}");
+            }
+            // What take looks at is not looked at here.
+            assert_eq!(with(Draft { counter: 2, ..right() }), OK);
+            assert_eq!(with(Draft { counter: MOST_COUNTERS as u32 - 1, ..right() }), OK);
+            assert_eq!(with(Draft { p: MAX, ..right() }), OK);
+        }
+        // Also what every card has had.
+        let all_had = |lent: &mut Lent| assert_eq!(lent.deliver_pending(u64::MAX), (OK, 12));
+        assert_eq!(lent.number_with(all_had), OK);
+        let and_lost = |lent: &mut Lent| {
+            all_had(lent);
+            lent.rewrite(card, 1, count_of(card, 3));
+        };
+        assert_eq!(lent.number_with(and_lost), BAD_LOG);
+        // A third message: made, and not there; there, and not made; both.
+        let made = |lent: &mut Lent| lent.replica(card)[own(card)] = 3;
+        let there = |lent: &mut Lent| lent.rewrite(card, 3, count_of(card, 3));
+        assert_eq!(lent.number_with(made), BAD_LOG);
+        assert_eq!(lent.number_with(|lent| lent.log(card)[2 * INCREMENT_BYTES..].fill(7)), OK);
+        assert_eq!(lent.number_with(there), OK);
+        let both = |lent: &mut Lent| {
+            made(lent);
+            there(lent);
+        };
+        assert_eq!(lent.number_with(both), OK);
+        assert_eq!(lent.number_with(|lent| lent.replica(card)[own(card)] = MAX), BAD_LOG);
+        // Another card has had as many as were made, and one more.
+        for (received, due) in [(0, OK), (1, OK), (2, OK), (3, BAD_LOG), (MAX, BAD_LOG)] {
+            let number = lent.number_with(|lent| lent.replica(other)[own(card)] = received);
+            assert_eq!(number, due, "{received} received");
+        }
+        let more_received = |lent: &mut Lent| {
+            there(lent);
+            lent.replica(other)[own(card)] = 3;
+        };
+        assert_eq!(lent.number_with(more_received), BAD_LOG);
+    }
+    // The last byte of the last message.
+    let cut = |lent: &mut Lent, left: usize| {
+        let logs: Vec<u8> = (0..3).flat_map(|card| lent.log(card)[..left].to_vec()).collect();
+        (lent.log_bytes, lent.logs) = (left as u64, logs);
+    };
+    assert_eq!(lent.number_with(|lent| cut(lent, 2 * INCREMENT_BYTES)), OK);
+    assert_eq!(lent.number_with(|lent| cut(lent, 2 * INCREMENT_BYTES - 1)), BAD_LOG);
+    assert_eq!(lent.number_with(|lent| cut(lent, 0)), BAD_LOG);
+}
+
+/// Each fault on another card. Without the first of them, the next is answered.
+#[test]
+fn refusals_of_deliveries_in_their_order() {
+    for cards in [[0, 1, 2], [0, 2, 1], [1, 0, 2], [1, 2, 0], [2, 0, 1], [2, 1, 0]] {
+        let [head, row, log] = cards;
+        let mut lent = two_of_each();
+        let n = entry_at(3, 1, 2).start + 1;
+        let right = lent.replica(row)[n];
+        let refused = |lent: &mut Lent, number: u64| {
+            for most in [0, 1, u64::MAX] {
+                assert_eq!(lent.deliver_pending(most), (number, 0), "{cards:?}");
+            }
+        };
+        lent.words.push(0);
+        lent.replica(head)[OWN_AT] = 3;
+        lent.replica(row)[n] = 9;
+        lent.log(log)[0] = 9;
+        refused(&mut lent, BAD_SIZES);
+        lent.words.pop();
+        refused(&mut lent, BAD_REPLICA);
+        lent.replica(head)[OWN_AT] = head as u64;
+        refused(&mut lent, BAD_ROW);
+        lent.replica(row)[n] = right;
+        refused(&mut lent, BAD_LOG);
+        lent.log(log)[0] = 0;
+        assert_eq!(lent.words, two_of_each().words);
+        assert_eq!(lent.deliver_pending(u64::MAX), (OK, 12));
+    }
+}
+
+/// One message is changed, of card 0 to all: take declines it, for every reason that there is.
+#[test]
+fn links_passed_over() {
+    let stranger = [(1, 1, 1), (3, 1, 1)];
+    let declined = [
+        (Draft { counter: 2, ..count_of(0, 1) }, BAD_COUNTER),
+        (Draft { p: 2, ..count_of(0, 1) }, IMPLAUSIBLE),
+        (Draft { start: 0, ..count_of(0, 1) }, IMPLAUSIBLE),
+        (Draft { sequence: 1, ..next_clear_of_card_0(&stranger) }, BAD_CARD),
+        (Draft { sequence: 1, ..next_clear_of_card_0(&[(0, 1, 3)]) }, IMPLAUSIBLE),
+    ];
+    for (draft, number) in declined {
+        let mut lent = two_of_each();
+        let log = [draft.bytes(), count_of(0, 2).bytes()].concat();
+        lent.log(0)[..log.len()].copy_from_slice(&log);
+        let before = lent.clone();
+        assert_eq!(take(&mut lent.clone().replica(1).to_vec(), &draft.bytes()), number);
+        // Cards 1 and 2 have two each from one another, and card 0 two from each.
+        assert_eq!(lent.deliver_pending(u64::MAX), (OK, 8), "{draft:?}");
+        assert_eq!(lent.deliver_pending(u64::MAX), (OK, 0), "{draft:?}");
+        assert_eq!(lent.replica(1)[messages_at(3, 0)], 0);
+        assert_eq!(lent.replica(2)[messages_at(3, 0)], 0);
+        // What is declined is no delivery: the third is to card 1 from card 2.
+        let mut lent = before;
+        assert_eq!(lent.deliver_pending(3), (OK, 3));
+        assert_eq!(lent.replica(1)[messages_at(3, 2)], 1);
+        assert_eq!(lent.replica(2)[messages_at(3, 1)], 0);
+    }
 }

@@ -283,10 +283,13 @@ fn nothing_lent() {
         library::run(cards, 1, 0, &[], lent)
     };
     assert_eq!(run(1, &mut []), BAD_SIZES);
+    assert_eq!(library::deliver_pending(1, 1, 0, 1, &mut [], &[]).number, BAD_SIZES);
     let mut words = fresh(2, 1, 0);
     assert_eq!(library::count(&mut words, 0, &mut []).number, SHORT_OUTPUT);
     assert_eq!(library::clear(&mut words, 0, &mut []).number, SHORT_OUTPUT);
     assert_eq!(library::read_and_clear(&mut words, 0, &mut []).number, SHORT_OUTPUT);
     assert_eq!(library::take(&mut words, &[]).number, UNREADABLE);
-    assert_eq!(run(2, &mut vec![7; 2 * words.len()]), OK);
+    let mut both = vec![7; 2 * words.len()];
+    assert_eq!(run(2, &mut both), OK);
+    assert_eq!(library::deliver_pending(2, 1, 0, 1, &mut both, &[]), library::Delivered::default());
 }

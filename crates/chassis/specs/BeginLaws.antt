@@ -18,13 +18,13 @@ use Rattle.replica_model.specs.Calls.{sizes-in-range, replica-fits, open-on}
 use Rattle.replica_model.specs.ClaimTerms.{Sizes}
 use Rattle.replica_model.specs.RowLaws.{sizes, tests}
 use Rattle.chassis_model.specs.ListParts.{put-part}
-use Rattle.chassis_model.specs.Run.{answer-length, sizes-right, fresh-replicas}
+use Rattle.chassis_model.specs.Run.{answer-length, chassis-fits, sizes-right, fresh-replicas}
 use Rattle.chassis_model.specs.FreshRun.{fresh-length}
 
 -- ---- sizes
 
 abbrev pub lengths-right : ℕ → ℕ → ℕ → ℕ → ℕ → ℕ → ℕ → Bool
-lengths-right r k L steps words logs answers = sizes-in-range r k && eqb words (r * replica-length r k) && eqb logs (r * L) && eqb answers (answer-length * steps)
+lengths-right r k L steps words logs answers = chassis-fits r k L words logs && eqb answers (answer-length * steps)
 
 pub sizes-by-length : (r k L steps : ℕ) (words logs answers : List ℕ)
     → sizes-right r k L steps words logs answers ≡ lengths-right r k L steps (length words) (length logs) (length answers)
@@ -39,6 +39,7 @@ pub record RightLengths (r k L steps words logs answers : ℕ) : Type 0 where
   pub answers-fit : answers ≡ answer-length * steps
 
 pub right-lengths : (r k L steps words logs answers : ℕ) → lengths-right r k L steps words logs answers ≡ true → RightLengths r k L steps words logs answers
+unfolding chassis-fits
 right-lengths r k L steps words logs answers right =
     let f = simp tests at right in
     record { sized = sizes r k (f .0 .0 .0); words-fit = f .0 .0 .1; logs-fit = f .0 .1; answers-fit = f .1 }

@@ -25,13 +25,12 @@ use Rattle.chassis_model.specs.declared.Action.{Action}
 use Rattle.chassis_model.specs.declared.Action.the-variants.{Make, Deliver}
 use Rattle.chassis_model.specs.declared.Step.{Step}
 use Rattle.chassis_model.specs.declared.StepAnswer.{StepAnswer}
+pub use Rattle.chassis_model.specs.Run.{state-of}
 use Rattle.chassis_model.specs.Run.{call-of, State, Stepped, answered, answer-words, answer-length, N-at, made, delivered, step-checks, acted, step-on, state-after, answers-of}
 use Rattle.chassis_model.specs.StepLaws.{performed-is, declined-is, link-passes, link-test}
-use Rattle.chassis_model.specs.Places.{link-place, Reached, free-place-is, place-inside, waits-at, made-reached, delivered-reached}
+use Rattle.chassis_model.specs.Places.{link-place, Reached, WaitsAt, free-place-is, place-inside, waits-at, made-reached, delivered-reached}
 use Rattle.chassis.specs.declared.Sizes.{Sizes}
-
-abbrev pub state-of : List ℕ → List ℕ → State
-state-of words logs = record { words = words; logs = logs }
+use Rattle.chassis.specs.declared.stepping.Handed.{Handed}
 
 -- the words of as many replicas as there are cards
 pub record WordsFit (sizes : Sizes) (words : List ℕ) : Type 0 where
@@ -39,6 +38,20 @@ pub record WordsFit (sizes : Sizes) (words : List ℕ) : Type 0 where
   pub few-counters : sizes .counters ≤ most-counters
   pub replica-is : sizes .«replica_words» ≡ replica-length (sizes .cards) (sizes .counters)
   pub long : length words ≡ sizes .cards * sizes .«replica_words»
+
+-- card s's next message for card i stands from `at` on in its log
+pub record HandReady (sizes : Sizes) (i s at : ℕ) (words logs : List ℕ) : Type 0 where
+  pub words-fit : WordsFit sizes words
+  pub logs-long : length logs ≡ sizes .cards * sizes .«log_bytes»
+  pub receiver : i < sizes .cards
+  pub sender : s < sizes .cards
+  pub stands : WaitsAt (sizes .«log_bytes») (part (sizes .«log_bytes») logs s) (N-at (sizes .cards) (sizes .counters) (sizes .«log_bytes») (state-of words logs) i s) at
+
+-- it was handed over
+pub record HandedOver (sizes : Sizes) (i s at : ℕ) (words logs : List ℕ) (handed : Handed) (words′ : List ℕ) : Type 0 where
+  pub outcome : _≡_ {A = Stepped} (record { answer = answered (handed .number); state = state-of words′ logs })
+      (delivered (sizes .cards) (sizes .counters) (sizes .«log_bytes») i s (state-of words logs))
+  pub behind : handed .behind ≡ at + called-length (drop at (part (sizes .«log_bytes») logs s))
 
 -- a state that a run of these sizes has reached, with the place of each link's next message
 pub record StepReady (sizes : Sizes) (words logs places : List ℕ) : Type 0 where
@@ -154,25 +167,53 @@ module _ (sizes : Sizes) (words logs places : List ℕ) (g : StepReady sizes wor
 
   -- ---- a message handed over
 
-  pub delivered-did : (i s at : ℕ) (taken : Taken) (b message : List ℕ) → IsLink r i s → N-at r k L st i s < N-at r k L st s s → at ≡ getD places (link-place i s) 0
-      → message ≡ take (called-length (drop at (part L logs s))) (drop at (part L logs s))
-      → _≡_ {A = TakeOutcome} (record { answer = taken; words = b }) (take-on (part size words i) message)
-      → StepDone sizes (Deliver i s) words logs (answered (taken .number)) (put-part size i b words) logs (set places (link-place i s) (at + length message))
-  unfolding delivered
-  delivered-did i s at taken b message (hi, hs, apart) waits here part-is done =
-      let stands = waits-at r k L st places (g .reached) i s hi hs waits in
-      let log = part L logs s in
-      let long : length message ≡ called-length (drop at log) = rw (part-is, here) (length-take-le _ _ (stands .room)) in
-      let waiting : message ≡ waiting-part (suc (N-at r k L st i s)) log = part-is ∙ rw here (sym (stands .waits)) in
-      let outcome : _≡_ {A = Stepped} (record { answer = answered (taken .number); state = state-of (put-part size i b words) logs }) (delivered r k L i s st)
-      = rw (← waiting, ← (g .replica-is), ← done) in
-      record {
-        outcome = outcome ∙ sym (performed-is r k L st (Deliver i s) (link-passes r k L st i s (hi, hs, apart) waits));
-        given = record {
-          replica-is = g .replica-is;
-          reached =
-              rw (long, here)
-              (subst (λ (x : Stepped). Reached r k L (x .state) (set places (link-place i s) (getD places (link-place i s) 0 + called-length (drop (getD places (link-place i s) 0) log))))
-              (sym outcome) (delivered-reached r k L st places (g .reached) i s hi hs apart waits));
-        };
-      }
+  pub hand-ready : (i s : ℕ) → IsLink r i s → N-at r k L st i s < N-at r k L st s s → HandReady sizes i s (getD places (link-place i s) 0) words logs
+  hand-ready i s (hi, hs, apart) waits = record {
+    words-fit = words-fit;
+    logs-long = g .reached .matches .logs-fit;
+    receiver = hi;
+    sender = hs;
+    stands = waits-at r k L st places (g .reached) i s hi hs waits;
+  }
+
+  pub delivered-did : (i s : ℕ) (handed : Handed) (b : List ℕ) → IsLink r i s → N-at r k L st i s < N-at r k L st s s
+      → HandedOver sizes i s (getD places (link-place i s) 0) words logs handed b
+      → StepDone sizes (Deliver i s) words logs (answered (handed .number)) b logs (set places (link-place i s) (handed .behind))
+  delivered-did i s handed b (hi, hs, apart) waits done = record {
+    outcome = done .outcome ∙ sym (performed-is r k L st (Deliver i s) (link-passes r k L st i s (hi, hs, apart) waits));
+    given = record {
+      replica-is = g .replica-is;
+      reached =
+          rw (done .behind)
+          (subst (λ (x : Stepped). Reached r k L (x .state) (set places (link-place i s) (getD places (link-place i s) 0 + called-length (drop (getD places (link-place i s) 0) (part L logs s)))))
+          (sym (done .outcome)) (delivered-reached r k L st places (g .reached) i s hi hs apart waits));
+    };
+  }
+
+-- ---- take of the message that stands there
+
+module _ (sizes : Sizes) (i s at : ℕ) (words logs : List ℕ) (h : HandReady sizes i s at words logs) where
+  -- the parts that are lent lie inside
+  pub replica-end : i * sizes .«replica_words» + sizes .«replica_words» ≤ length words
+  replica-end = rw (h .words-fit .long) (part-room i (sizes .cards) (sizes .«replica_words») (h .receiver))
+
+  pub log-end : s * sizes .«log_bytes» + sizes .«log_bytes» ≤ length logs
+  log-end = rw (h .logs-long) (part-room s (sizes .cards) (sizes .«log_bytes») (h .sender))
+
+  pub log-is-long : length (part (sizes .«log_bytes») logs s) ≡ sizes .«log_bytes»
+  log-is-long = part-length (sizes .cards) (sizes .«log_bytes») s logs (h .logs-long) (h .sender)
+
+  module _ (message : List ℕ) (here : message ≡ take (called-length (drop at (part (sizes .«log_bytes») logs s))) (drop at (part (sizes .«log_bytes») logs s))) where
+    pub message-long : length message ≡ called-length (drop at (part (sizes .«log_bytes») logs s))
+    message-long = rw here (length-take-le _ _ (h .stands .room))
+
+    pub handed-over : (taken : Taken) (b : List ℕ) → _≡_ {A = TakeOutcome} (record { answer = taken; words = b }) (take-on (part (sizes .«replica_words») words i) message)
+        → HandedOver sizes i s at words logs (record { number = taken .number; behind = at + length message }) (put-part (sizes .«replica_words») i b words)
+    unfolding delivered
+    handed-over taken b done = record {
+      outcome =
+          let waiting : message ≡ waiting-part (suc (N-at (sizes .cards) (sizes .counters) (sizes .«log_bytes») (state-of words logs) i s)) (part (sizes .«log_bytes») logs s)
+          = here ∙ sym (h .stands .waits) in
+          rw (← waiting, ← (h .words-fit .replica-is), ← done);
+      behind = rw message-long;
+    }

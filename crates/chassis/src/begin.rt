@@ -9,7 +9,7 @@ ghost use lib.Dec.{eqb};
 ghost use Rattle.replica_model.specs.Layout.{replica-length, fresh-words};
 ghost use Rattle.replica_model.specs.ClaimTerms.{Sizes};
 ghost use Rattle.chassis_model.specs.ListParts.{put-part};
-ghost use Rattle.chassis_model.specs.Run.{fresh-replicas};
+ghost use Rattle.chassis_model.specs.Run.{chassis-fits, fresh-replicas};
 ghost use Rattle.chassis.specs.BeginLaws.{lengths-right};
 
 // Is x = n * y? The product is not worked out: it may not fit a word.
@@ -20,7 +20,18 @@ fn is_product(x: u64, n: u64, y: u64) -> bool
     (x / n == y) & (x % n == 0)
 }
 
-// Number 11's test, over the lengths of what the caller lends: r, k and the capacity of a log are any words.
+// Number 11's test, but for the answers, over the lengths of what the caller lends: r, k and the capacity of a log are any words.
+pub fn is_chassis(r: u64, k: u64, log_bytes: u64, words: usize, logs: usize) -> bool
+    ensures { λ a. ⌜ a ≡ chassis-fits r k «log_bytes» words logs ⌝ }
+{
+    if words::are_sizes_in_range(r, k) {
+        let needed = r as usize * words::replica_words(r as usize, k as usize);
+        return (words == needed) & is_product(logs as u64, r, log_bytes);
+    }
+    false
+}
+
+// Number 11's test for a run.
 pub fn sizes_are_right(
     r: u64,
     k: u64,
@@ -32,12 +43,8 @@ pub fn sizes_are_right(
 ) -> bool
     ensures { λ a. ⌜ a ≡ lengths-right r k «log_bytes» steps words logs answers ⌝ }
 {
-    if words::are_sizes_in_range(r, k) {
-        let needed = r as usize * words::replica_words(r as usize, k as usize);
-        let answered = is_product(answers as u64, stepping::ANSWER_WORDS as u64, steps as u64);
-        return (words == needed) & is_product(logs as u64, r, log_bytes) & answered;
-    }
-    false
+    let chassis = is_chassis(r, k, log_bytes, words, logs);
+    chassis & is_product(answers as u64, stepping::ANSWER_WORDS as u64, steps as u64)
 }
 
 fn fresh_card(words: &mut [u64], r: usize, k: usize, card: usize)

@@ -24,7 +24,7 @@ ghost use Rattle.replica_model.specs.Calls.{ClearedOutcome};
 ghost use Rattle.chassis_model.specs.Run.{action-of, call-of, N-at, answered, answer-words, answer-length};
 ghost use Rattle.chassis_model.specs.Places.{link-place, links};
 ghost use Rattle.chassis.specs.PartOf.{PartOf};
-ghost use Rattle.chassis.specs.StepCodeLaws.{WordsFit, state-of, StepReady, StepDone, appended, StepAnswered};
+ghost use Rattle.chassis.specs.StepCodeLaws.{WordsFit, state-of, HandReady, HandedOver, StepReady, StepDone, appended, StepAnswered};
 
 const COUNT: u32 = 1;
 
@@ -82,7 +82,7 @@ fn lay(answer: StepAnswer, i: usize, answers: &mut [u64])
 }
 
 // Where the place of a link is kept.
-fn link(receiver: usize, sender: usize) -> usize
+pub fn link(receiver: usize, sender: usize) -> usize
     requires { ⌜ (receiver < most-cards) × (sender < most-cards) ⌝ }
     ensures { λ a. ⌜ (a ≡ link-place receiver sender) × (a < links) ⌝ }
 {
@@ -152,7 +152,7 @@ fn make(
 }
 
 // N of `sender` in the replica of card `card`.
-fn received(sizes: Sizes, words: &[u64], card: usize, sender: usize) -> u64
+pub fn received(sizes: Sizes, words: &[u64], card: usize, sender: usize) -> u64
     requires { ⌜ WordsFit sizes (now words) × (card < sizes .cards) × (sender < sizes .cards) ⌝ }
     ensures { λ a. ⌜ ((logs : List ℕ) → a ≡ N-at (sizes .cards) (sizes .counters) (sizes .«log_bytes») (state-of (now (words .entry)) logs) card sender) ⌝ }
 {
@@ -172,8 +172,38 @@ fn next_message(log: &[u8], at: usize) -> &[u8]
     &rest[..length]
 }
 
-// A message handed over between two cards that are there: the receiver's part of the words is lent to take, with the part of the
-// sender's log where its next message stands.
+// What take answered to a message that was handed over, and the place behind that message.
+pub struct Handed {
+    pub number: u64,
+    pub behind: u64,
+}
+
+// The message that stands from `at` on in the sender's log is handed over: the receiver's part of the words is lent to take, with
+// that part of the log.
+pub fn hand_over(
+    sizes: Sizes,
+    receiver: usize,
+    sender: usize,
+    at: u64,
+    words: &mut [u64],
+    logs: &[u8],
+) -> Handed
+    requires { ⌜ HandReady sizes receiver sender at (now words) (now logs) ⌝ }
+    ensures { λ a. ⌜ HandedOver sizes receiver sender at (now (words .entry)) (now (logs .entry)) a (now (words .exit)) ⌝ }
+{
+    let start = sender * sizes.log_bytes;
+    let end = start + sizes.log_bytes;
+    let message = next_message(&logs[start..end], at as usize);
+    let from = receiver * sizes.replica_words;
+    let to = from + sizes.replica_words;
+    let taken = take::take(&mut words[from..to], message);
+    Handed {
+        number: taken.number,
+        behind: at + message.len() as u64,
+    }
+}
+
+// A delivery between two cards that are there.
 fn deliver(
     sizes: Sizes,
     receiver: usize,
@@ -192,14 +222,9 @@ fn deliver(
     }
     let which = link(receiver, sender);
     let at = places[which];
-    let start = sender * sizes.log_bytes;
-    let end = start + sizes.log_bytes;
-    let message = next_message(&logs[start..end], at as usize);
-    let from = receiver * sizes.replica_words;
-    let to = from + sizes.replica_words;
-    let taken = take::take(&mut words[from..to], message);
-    places[which] = at + message.len() as u64;
-    answered(taken.number)
+    let handed = hand_over(sizes, receiver, sender, at, words, logs);
+    places[which] = handed.behind;
+    answered(handed.number)
 }
 
 // One step, whatever its numbers.

@@ -26,6 +26,7 @@ pub mod ReadAndClearClaims
 pub mod ReadAndClearExamples
 pub mod Algorithm1Claims
 pub mod PendingClaims
+pub mod PendingExamples
 pub mod CaughtUpClaims
 pub mod ClearClaims
 pub mod ClearedExamples

@@ -1,70 +1,115 @@
--- CLAIMS. Request 2026-04, "A delivery pump", over words and bytes. Each has its sentence, its statement, and the law that proves it. First of any state that the
--- checks before a call pass (`Checked`), come from a run or not; then of the state that a run leaves, which passes them.
+-- CLAIMS. Delivering what waits, in rounds (SPECIFICATION 6.3), over words and logs: what a caller relies on beyond the call's own equation (`Pending`). Each has its
+-- sentence, its statement, and the law that proves it. First of any words and logs; then of those that a run and any number of calls behind it leave.
 use Prim.Native.Nat.{ℕ, _+_, _-_, _*_, _≤_, _<_}
 use mathlib.Core.Path.{_≡_}
 use mathlib.Core.Bool.{true, false}
 use mathlib.Core.Logic.{_⊎_}
-use mathlib.Core.List.{List, _++_, map}
-use lib.ListN.{length, take}
-use Rattle.protocol.specs.RoundRobin.{IsLink, times, PassedOver}
-use Rattle.protocol.specs.PendingClaims as transport
-use Rattle.replica_model.specs.Calls.{sizes-in-range, read-on}
-use Rattle.replica_model.specs.RowLaws.{sizes}
-use Rattle.chassis_model.specs.Run.{Step, State, replica-of, state-after, answers-of, numbers-in}
-use Rattle.chassis_model.specs.Answers.{fresh-state}
-use Rattle.chassis_model.specs.Pending.{state-links, pump, all-waiting, pump-steps, Checked}
-use Rattle.chassis_model.specs.PendingChecked.{checked-orderly}
+use mathlib.Core.List.{List, _++_}
+use lib.ListN.{length, take, replicate}
+use Rattle.protocol.specs.Checks.{Decided}
+use Rattle.protocol.specs.RoundRobin.{IsLink, Progress, times, replayed, AllDeliver, PassedOver}
+use Rattle.replica_model.specs.Layout.{replica-length}
+use Rattle.replica_model.specs.Calls.{read-on}
+use Rattle.chassis_model.specs.ListParts.{part}
+use Rattle.chassis_model.specs.Run.{Step, State, state-of, N-at, answer-length, state-after, RunOutcome, run-on}
+use Rattle.chassis_model.specs.Ledger.{ledger-of, ledger-reading}
+use Rattle.chassis_model.specs.Pending.{state-links, pump, all-waiting, pending-checks, none-delivered, delivered-all, deliver-pending-on, words-after-calls, pump-steps, steps-of-calls}
 use Rattle.chassis_model.specs.PendingLaws as laws
 
--- ---- any state that the checks pass
+-- ---- any words and logs
 
-module _ (r k L b : ℕ) (st : State) (checked : Checked r k L st) where
-  -- "makes at most b deliveries"
-  pub at-most : length (pump r k L b st .made) ≤ b
-  at-most = transport.at-most (state-links r k L) r b st
+module _ (r k L b : ℕ) (words logs : List ℕ) where
+  -- The call gives 11, 1, 2 and 15 each if and only if its cause holds and no earlier one does; a refusal is its number, 0, and the words as they were.
+  pub deliver-pending-exact : Decided (λ o. o .answer .number) (none-delivered words) (pending-checks r k L (state-of words logs)) (delivered-all (pump r k L b (state-of words logs)))
+      (deliver-pending-on r k L b words logs)
+  deliver-pending-exact = laws.decided r k L b words logs
 
-  -- "It stops only at b, or when no link not passed over has one waiting."
-  pub stops-only : (length (pump r k L b st .made) ≡ b)
-      ⊎ ((i s : ℕ) → IsLink r i s → pump r k L b st .passed i s ≡ false → state-links r k L .waiting i s (pump r k L b st .state) ≡ 0)
-  stops-only = transport.stops-only (state-links r k L) r b (Checked r k L) (checked-orderly r k L) st checked
+  -- "makes at most b deliveries", whatever is handed in
+  pub at-most : deliver-pending-on r k L b words logs .answer .deliveries ≤ b
+  at-most = laws.at-most r k L b words logs
 
-  -- "It returns how many it made, which is how far the total waiting has fallen."
-  pub returns-fall : all-waiting r k L st ≡ length (pump r k L b st .made) + all-waiting r k L (pump r k L b st .state)
-  returns-fall = transport.returns-fall (state-links r k L) r b (Checked r k L) (checked-orderly r k L) st checked
+  module _ (accepted : deliver-pending-on r k L b words logs .answer .number ≡ 0) where
+    abbrev p : Progress State
+    p = pump r k L b (state-of words logs)
 
-  -- "a link whose message take declines is passed over for the rest of the call and keeps it waiting"
-  pub passes-over : (i s : ℕ) → IsLink r i s → pump r k L b st .passed i s ≡ true → PassedOver (state-links r k L) st (pump r k L b st) i s
-  passes-over = transport.passes-over (state-links r k L) r b (Checked r k L) (checked-orderly r k L) st checked
+    abbrev later : State
+    later = state-of (deliver-pending-on r k L b words logs .words) logs
 
-  -- "The message in place q of its link is taken within the first q times r times (r - 1) deliveries, if b allows.": of those deliveries at least q are of that
-  -- link, if it is not passed over.
-  pub place-within : (i s q : ℕ) → IsLink r i s → pump r k L b st .passed i s ≡ false → q ≤ state-links r k L .waiting i s st → q * (r * (r - 1)) ≤ b
-      → q ≤ times i s (take (q * (r * (r - 1))) (pump r k L b st .made))
-  place-within = transport.place-within (state-links r k L) r b (Checked r k L) (checked-orderly r k L) st checked
+    -- "It returns how many it made, which is how far the total waiting has fallen."
+    pub returns-fall : all-waiting r k L (state-of words logs) ≡ deliver-pending-on r k L b words logs .answer .deliveries + all-waiting r k L later
+    returns-fall = laws.returns-fall r k L b words logs accepted
 
--- ---- after a run
+    -- "It stops only at b, or when no link not passed over has one waiting."
+    pub stops-only : (deliver-pending-on r k L b words logs .answer .deliveries ≡ b)
+        ⊎ ((i s : ℕ) → IsLink r i s → p .passed i s ≡ false → N-at r k L later s s ≤ N-at r k L later i s)
+    stops-only = laws.stops-only r k L b words logs accepted
 
-module _ (r k L : ℕ) (right : sizes-in-range r k ≡ true) (logs : List ℕ) (fits : length logs ≡ r * L) (steps : List Step) where
-  -- The checks pass.
-  pub run-checked : Checked r k L (state-after r k L steps (fresh-state r k L logs))
-  run-checked = laws.run-checked r k L steps logs (sizes r k right) fits 0
+    -- What the call leaves is what its deliveries leave, one after the other, each of a link that has a message waiting, which take accepts.
+    pub is-its-deliveries : (later ≡ replayed (state-links r k L) (p .made) (state-of words logs)) × AllDeliver (state-links r k L) r (p .made) (state-of words logs)
+    is-its-deliveries = laws.is-its-deliveries r k L b words logs accepted
 
-  -- No link is passed over.
-  pub passes-none : (b i s : ℕ) → pump r k L b (state-after r k L steps (fresh-state r k L logs)) .passed i s ≡ false
-  passes-none b = laws.never-passes r k L steps logs (sizes r k right) fits b
+    -- "a link whose message take declines is passed over for the rest of the call and keeps it waiting"
+    pub passes-over : (i s : ℕ) → IsLink r i s → p .passed i s ≡ true → PassedOver (state-links r k L) (state-of words logs) p i s
+    passes-over = laws.passes-over r k L b words logs accepted
 
-  -- "The ledger counts each pumped delivery as a deliver step.": what a call leaves is what the list with the deliveries behind it as deliver steps leaves, each of
-  -- them answered with 0. So every claim on runs is one on a run and its calls.
-  pub calls-are-steps : (b : ℕ)
-      → let st = state-after r k L steps (fresh-state r k L logs) in
-      let made = pump r k L b st .made in
-      (pump r k L b st .state ≡ state-after r k L (steps ++ pump-steps made) (fresh-state r k L logs))
-      × (numbers-in (answers-of r k L (pump-steps made) st) ≡ map (λ l. 0) made)
-  calls-are-steps b = (laws.call-is-steps r k L steps logs (sizes r k right) fits b, laws.call-answers r k L steps logs (sizes r k right) fits b)
+    -- "The message in place q of its link is taken within the first q times r times (r - 1) deliveries, if b allows.": of those deliveries at least q are of
+    -- that link, if it is not passed over.
+    pub place-within : (i s q : ℕ) → IsLink r i s → p .passed i s ≡ false → N-at r k L (state-of words logs) i s + q ≤ N-at r k L (state-of words logs) s s → q * (r * (r - 1)) ≤ b
+        → q ≤ times i s (take (q * (r * (r - 1))) (p .made))
+    place-within = laws.place-within r k L b words logs accepted
 
-  -- "When b is at least the total waiting, all cards then agree on every value and holder set."
-  pub agreement : (b : ℕ)
-      → let st = state-after r k L steps (fresh-state r k L logs) in
-      all-waiting r k L st ≤ b → (i j q : ℕ) → i < r → j < r → q < k
-      → read-on (replica-of r k L (pump r k L b st .state) i) q ≡ read-on (replica-of r k L (pump r k L b st .state) j) q
-  agreement b = laws.call-agrees r k L steps logs (sizes r k right) fits b
+    -- An accepted call leaves words that no such call refuses.
+    pub accepted-again : (b′ : ℕ) → deliver-pending-on r k L b′ (deliver-pending-on r k L b words logs .words) logs .answer .number ≡ 0
+    accepted-again = laws.accepted-again r k L b words logs accepted
+
+-- ---- after a run that answered 0, and any calls, each with its own b (`bs`)
+
+module _ (r k L : ℕ) (steps : List Step) (words logs answers : List ℕ) (accepted : run-on r k L steps words logs answers .number ≡ 0) (bs : List ℕ) where
+  abbrev ran : RunOutcome
+  ran = run-on r k L steps words logs answers
+
+  abbrev pub now : State
+  now = state-of (words-after-calls r k L bs (ran .words) (ran .logs)) (ran .logs)
+
+  -- the list with the deliveries behind it as deliver steps
+  abbrev pub all-steps : List Step
+  all-steps = steps ++ steps-of-calls r k L bs (ran .words) (ran .logs)
+
+  -- "The ledger counts each pumped delivery as a deliver step.": a run and its calls are the run of the list with the deliveries behind it as deliver steps: it leaves
+  -- the same words and logs, and each of these steps is answered with 0 and 0. So every claim on runs is one on a run and its calls.
+  pub run-and-calls : (answers′ : List ℕ) → length answers′ ≡ answer-length * length all-steps
+      → run-on r k L all-steps words logs answers′
+      ≡ record {
+        number = 0;
+        words = now .words;
+        logs = ran .logs;
+        answers = ran .answers ++ replicate {A = ℕ} (answer-length * length (steps-of-calls r k L bs (ran .words) (ran .logs))) 0;
+      }
+  run-and-calls = laws.run-and-calls r k L steps words logs answers accepted bs
+
+  -- The ledger theorem, of a run and its calls.
+  pub ledger-theorem-after-calls : (i q : ℕ) → i < r → q < k
+      → read-on (part (replica-length r k) (now .words) i) q
+      ≡ ledger-reading r i (ledger-of r q all-steps (ran .answers ++ replicate {A = ℕ} (answer-length * length (steps-of-calls r k L bs (ran .words) (ran .logs))) 0))
+  ledger-theorem-after-calls = laws.ledger-theorem-after-calls r k L steps words logs answers accepted bs
+
+  -- No such call is refused, and in none is a link passed over: take declines no message.
+  pub accepted-after-run : (b : ℕ) → deliver-pending-on r k L b (now .words) (ran .logs) .answer .number ≡ 0
+  accepted-after-run = laws.accepted-after-run r k L steps words logs answers accepted bs
+
+  pub passes-none : (b i s : ℕ) → pump r k L b now .passed i s ≡ false
+  passes-none = laws.passes-none r k L steps words logs answers accepted bs
+
+  -- "The message in place q of its link is taken within the first q times r times (r - 1) deliveries, if b allows.": it is the sender's message number N + q, N being
+  -- the receiver's, and after those deliveries, and so after the call, the receiver's N is at least that.
+  pub place-taken : (b i s q : ℕ) → IsLink r i s → N-at r k L now i s + q ≤ N-at r k L now s s → q * (r * (r - 1)) ≤ b
+      → (N-at r k L now i s + q ≤ N-at r k L (state-after r k L (pump-steps (take (q * (r * (r - 1))) (pump r k L b now .made))) now) i s)
+      × (N-at r k L now i s + q ≤ N-at r k L (state-of (deliver-pending-on r k L b (now .words) (ran .logs) .words) (ran .logs)) i s)
+  place-taken = laws.place-taken r k L steps words logs answers accepted bs
+
+  -- "When b is at least the total waiting, all cards then agree on every value and holder set.": nothing waits any more, and every card reads every counter alike.
+  pub agreement : (b : ℕ) → all-waiting r k L now ≤ b
+      → let later = deliver-pending-on r k L b (now .words) (ran .logs) .words in
+      (all-waiting r k L (state-of later (ran .logs)) ≡ 0)
+      × ((i j q : ℕ) → i < r → j < r → q < k → read-on (part (replica-length r k) later i) q ≡ read-on (part (replica-length r k) later j) q)
+  agreement = laws.agreement r k L steps words logs answers accepted bs

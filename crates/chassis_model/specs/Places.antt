@@ -42,7 +42,7 @@ pub record PlacesOf (r : ℕ) (ends : ℕ → ℕ → ℕ) (places : List ℕ) :
   pub place : (i s : ℕ) → i < r → s < r → getD places (link-place i s) 0 ≡ ends i s
 
 -- one place moves
-places-move : (r : ℕ) (ends ends′ : ℕ → ℕ → ℕ) (places : List ℕ) (i s far : ℕ) → r ≤ most-cards → i < r → s < r → PlacesOf r ends places → ends′ i s ≡ ends i s + far
+pub places-move : (r : ℕ) (ends ends′ : ℕ → ℕ → ℕ) (places : List ℕ) (i s far : ℕ) → r ≤ most-cards → i < r → s < r → PlacesOf r ends places → ends′ i s ≡ ends i s + far
     → ((j t : ℕ) → j < r → t < r → (j ≡ i → t ≡ s → ⊥) → ends′ j t ≡ ends j t)
     → PlacesOf r ends′ (set places (link-place i s) (ends i s + far))
 places-move r ends ends′ places i s far few hi hs p here there = record {

@@ -50,6 +50,9 @@ pub record State : Type 0 where
   pub words : List ℕ
   pub logs : List ℕ
 
+abbrev pub state-of : List ℕ → List ℕ → State
+state-of words logs = record { words = words; logs = logs }
+
 -- what a step answers, and the state that it leaves
 pub record Stepped : Type 0 where
   pub answer : StepAnswer
@@ -151,10 +154,13 @@ module _ (r k L : ℕ) where
   answers-of [] st = []
   answers-of (s ∷ ss) st = answer-words (step-on s st .answer) ++ answers-of ss (step-on s st .state)
 
+  -- "r and k are in range, the words are r replicas long, the log is r times L bytes", of so many words and log bytes
+  unfoldable pub chassis-fits : ℕ → ℕ → Bool
+  chassis-fits words logs = sizes-in-range r k && eqb words (r * replica-length r k) && eqb logs (r * L)
+
   -- "Sizes are right when r and k are in range, the words are r replicas long, the log is r times L bytes and there are two answer words for each step."
   unfoldable pub sizes-right : ℕ → List ℕ → List ℕ → List ℕ → Bool
-  sizes-right steps words logs answers =
-      sizes-in-range r k && eqb (length words) (r * replica-length r k) && eqb (length logs) (r * L) && eqb (length answers) (answer-length * steps)
+  sizes-right steps words logs answers = chassis-fits (length words) (length logs) && eqb (length answers) (answer-length * steps)
 
 -- what a run answers, and what it leaves in the words, the logs and the answers
 pub record RunOutcome : Type 0 where

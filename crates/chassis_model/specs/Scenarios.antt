@@ -26,7 +26,7 @@ use Rattle.chassis_model.specs.declared.Step.{Step}
 use Rattle.chassis_model.specs.ListParts.{part, put-part}
 use Rattle.chassis_model.specs.Log.{waiting-part, end-of}
 use Rattle.chassis_model.specs.Run as run
-use Rattle.chassis_model.specs.Run.{action-of, call-of, State, replica-of, free-from, delivered, acted, state-after, answer-length, answers-of, numbers-in, fresh-replicas, sizes-right, run-on}
+use Rattle.chassis_model.specs.Run.{action-of, call-of, State, replica-of, free-from, delivered, acted, state-after, answer-length, answers-of, numbers-in, fresh-replicas, chassis-fits, sizes-right, run-on}
 use Rattle.chassis_model.specs.Ledger.{ledger-action, ledger-of, ledger-reading}
 
 -- What a card has after the steps on a chassis of so many cards and counters: of the counter its entry for the origin card, C and N of that origin, and what it
@@ -147,5 +147,5 @@ scenarios =
     ∷ []
 
 pub scenarios-hold : all-good scenarios ≡ true
-unfolding all-good holds-good scenarios listing overtaking not-yet sum-of put sum bits incremented cleared has insert join names-after tally any latest beyond applied sent made next-item rest-items handed count-item holds clear-names after-accepted after-step after-steps ledger-value ledger-holders count-message present-entries clear-message read-value read-holders cleared-words taken-words shown number-at bytes-of header-bytes increment-bytes entry-bytes entries-bytes clear-bytes message-bytes header-in-range increment-in-range clear-in-range entry-in-range entries-in-range unused in-range increment-message entries-at called-length message-at reads front-length form.clear-message fresh-words sizes-in-range right replica-fits all-below count-below entry-well-formed card-well-formed row-well-formed tables-well-formed reading read-on send-with words-after count-on clear-on content all-entries cards-known increment-implausible entry-plausible plausible take-with part put-part waiting-part end-of action-of call-of run.made delivered acted state-after answers-of numbers-in fresh-replicas sizes-right run-on ledger-action ledger-of ledger-reading
+unfolding all-good holds-good scenarios listing overtaking not-yet sum-of put sum bits incremented cleared has insert join names-after tally any latest beyond applied sent made next-item rest-items handed count-item holds clear-names after-accepted after-step after-steps ledger-value ledger-holders count-message present-entries clear-message read-value read-holders cleared-words taken-words shown number-at bytes-of header-bytes increment-bytes entry-bytes entries-bytes clear-bytes message-bytes header-in-range increment-in-range clear-in-range entry-in-range entries-in-range unused in-range increment-message entries-at called-length message-at reads front-length form.clear-message fresh-words sizes-in-range right replica-fits all-below count-below entry-well-formed card-well-formed row-well-formed tables-well-formed reading read-on send-with words-after count-on clear-on content all-entries cards-known increment-implausible entry-plausible plausible take-with part put-part waiting-part end-of action-of call-of run.made delivered acted state-after answers-of numbers-in fresh-replicas chassis-fits sizes-right run-on ledger-action ledger-of ledger-reading
 scenarios-hold = refl

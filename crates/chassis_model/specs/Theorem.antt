@@ -14,7 +14,7 @@ use Rattle.replica_model.specs.Calls.{read-on}
 use Rattle.replica_model.specs.RowLaws.{sizes}
 use Rattle.replica_model.specs.RowLaws.{tests}
 use Rattle.chassis_model.specs.ListParts.{part}
-use Rattle.chassis_model.specs.Run.{Step, action-of, State, StepAnswer, replica-of, step-on, state-after, answers-of, numbers-in, sizes-right, run-on, steps-of, run-bytes-on}
+use Rattle.chassis_model.specs.Run.{Step, action-of, State, StepAnswer, replica-of, step-on, state-after, answers-of, numbers-in, chassis-fits, sizes-right, run-on, steps-of, run-bytes-on}
 use Rattle.chassis_model.specs.Ledger.{ledger-step, was-accepted, accepted-of, ledger-of, ledger-reading}
 use Rattle.chassis_model.specs.Answers.{fresh-state, value-asked, due-answer, answer-in, run-answer}
 use Rattle.chassis_model.specs.Matches.{Sizes, Matches, RunAt, run-at}
@@ -51,7 +51,7 @@ run-matches (s ∷ ss) now =
 
 -- what right sizes say
 pub right-sizes : (r k L n : ℕ) (words logs answers : List ℕ) → sizes-right r k L n words logs answers ≡ true → Sizes r k × (length logs ≡ r * L)
-unfolding sizes-right
+unfolding chassis-fits sizes-right
 right-sizes r k L n words logs answers e = let f = simp tests at e in (sizes r k (f .0 .0 .0), f .0 .1)
 
 -- what a list of steps leaves is a run of the theory

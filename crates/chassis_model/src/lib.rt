@@ -29,6 +29,13 @@ pub struct StepAnswer {
     pub value: u64,
 }
 
+// What delivering what waits answers: its number, and how many deliveries it made.
+#[repr(C)]
+pub struct Delivered {
+    pub number: u64,
+    pub deliveries: u64,
+}
+
 // A part of a list of bytes, by its place: where it starts, and how long it is.
 #[repr(C)]
 pub struct Span {

@@ -88,6 +88,8 @@ pub mod RoundRobinLaws
 pub mod RoundRobinMade
 pub mod RoundRobinEnd
 pub mod RoundRobinBound
+pub mod RoundRobinTurns
+pub mod RoundRobinOpen
 pub mod PendingLaws
 pub mod Arrivals
 pub mod Agreement

@@ -67,3 +67,7 @@ nothing-waiting = 13
 -- "Log too short for the message"
 abbrev pub log-full : ℕ
 log-full = 14
+
+-- "A log that does not begin with its card's messages, or a receiver's N above its sender's"
+abbrev pub bad-log : ℕ
+bad-log = 15

@@ -1,4 +1,4 @@
--- DEFINITIONS. Request 2026-04 on the chassis of tables: `deliver-pending` over its links, a run followed by such calls ("a run and its pumps"),
+-- DEFINITIONS. Deliveries in rounds on the chassis of tables: `deliver-pending` over its links, a run followed by such calls ("a run and its pumps"),
 -- and the ledger of both.
 use Prim.Native.Nat.{ℕ, _-_}
 use mathlib.Core.Bool.{true}

@@ -1,4 +1,4 @@
--- CLAIMS. Request 2026-04, "A delivery pump": what a user of `deliver-pending` relies on. Each has its sentence, its statement, and the law that
+-- CLAIMS. Deliveries in rounds, "A delivery pump": what a user of `deliver-pending` relies on. Each has its sentence, its statement, and the law that
 -- proves it. First over any transport whose deliveries are orderly (`RoundRobin.Orderly`), in any good state, then on the chassis of tables.
 use Prim.Native.Nat.{ℕ, _+_, _-_, _*_, _≤_, _<_}
 use mathlib.Core.Path.{_≡_}

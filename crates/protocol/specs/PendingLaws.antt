@@ -1,6 +1,6 @@
 -- LAWS. `deliver-pending` on the chassis of tables. Its transport is orderly and accepts whatever waits, so a call is the run of its deliveries as
 -- deliver steps, each accepted, and a run followed by calls is a run (`pumps-run`): whatever is proved of runs holds of it.
-use Prim.Native.Nat.{ℕ, zero, suc, _+_, _-_, _*_, _≤_, _<_}
+use Prim.Native.Nat.{ℕ, suc, _+_, _-_, _*_, _≤_, _<_}
 use mathlib.Core.Path.{_≡_, refl, sym, ap, ap₂, _∙_}
 use mathlib.Core.Bool.{true, false}
 use mathlib.Core.List.{List, [], _∷_, _++_, map, map-append, map-map}
@@ -16,7 +16,7 @@ use Rattle.protocol.specs.InvariantSteps.{Invariant, taken-N}
 use Rattle.protocol.specs.Theorem.{run-invariant}
 use Rattle.protocol.specs.RoundRobin.{Link, IsLink, times, replayed, AllDeliver, Orderly}
 use Rattle.protocol.specs.RoundRobinLaws.{by-link}
-use Rattle.protocol.specs.RoundRobinMade.{times-none, times-this, times-that, CallOk, call-ok}
+use Rattle.protocol.specs.RoundRobinMade.{times-none, times-this, times-that, deliver-first, CallOk, call-ok}
 use Rattle.protocol.specs.RoundRobinEnd.{stops, drained, never-passed}
 use Rattle.protocol.specs.RoundRobinBound.{served-within}
 use Rattle.protocol.specs.Pending.{deliver-offer, chassis-links, offers, pump, all-waiting, after-pumps, pumped, ledger-after-pumps}
@@ -80,12 +80,6 @@ module _ (r : ℕ) where
       (λ e d. let n = times-this i s (l .receiver) (l .sender) ls e d in let m = N-link (l .receiver) (l .sender) st i s e d in omega arith)
       (λ d. let n = times-that i s (l .receiver) (l .sender) ls d in let m = N-elsewhere (l .receiver) (l .sender) st i s d in omega arith))
 
-  deliver-first : (n : ℕ) (ls : List Link) (st : Chassis) → AllDeliver (chassis-links r) r ls st → AllDeliver (chassis-links r) r (take n ls) st
-  unfolding AllDeliver
-  deliver-first zero ls st a = tt
-  deliver-first (suc n) [] st a = tt
-  deliver-first (suc n) (l ∷ ls) st a = (a .0, deliver-first n ls (stepped r (deliver-offer (l .receiver) (l .sender)) st) (a .1))
-
   -- ---- deliveries as a run
 
   replayed-run : (ls : List Link) (st : Chassis) → replayed (chassis-links r) ls st ≡ run r (offers ls) st
@@ -126,7 +120,7 @@ module _ (r : ℕ) where
     pump-reaches q i s k l fits =
         let ls = take (q * (r * (r - 1))) (pump r b st .made) in
         let n = served-within (chassis-links r) r b (λ st. Unit {0}) chassis-orderly st i s k q tt (pump-never-passes i s) (omega arith) fits in
-        let m = replayed-N ls st i s (deliver-first (q * (r * (r - 1))) (pump r b st .made) st (call .delivers)) in
+        let m = replayed-N ls st i s (deliver-first (chassis-links r) r (q * (r * (r - 1))) (pump r b st .made) st (call .delivers)) in
         rw (← (replayed-run ls st)) (omega arith)
 
     -- all that was made has come, where b is at least what waits

@@ -37,6 +37,8 @@ pub const NOTHING_WAITING: u64 = 13;
 
 pub const LOG_FULL: u64 = 14;
 
+pub const BAD_LOG: u64 = 15;
+
 // A replica's entry for one counter and one card: (p, n, c) of Algorithm 1, zeros where it is absent.
 pub struct Entry {
     pub p: u64,

@@ -8,7 +8,7 @@ ghost use lib.Dec.{leb};
 ghost use Rattle.protocol.specs.Limits.{most-cards, most-counters};
 ghost use Rattle.protocol.specs.Acceptance.{entry-well-formed};
 ghost use Rattle.replica_model.specs.Layout.{cards, counters, own-card, replica-length, at-entry, C-of, N-of, entry-from, entry-of, set-C, set-N, set-three, set-entry};
-ghost use Rattle.replica_model.specs.Calls.{sizes-in-range, replica-fits, right, row-well-formed};
+ghost use Rattle.replica_model.specs.Calls.{sizes-in-range, replica-fits, right, in-place, row-well-formed};
 ghost use Rattle.replica.specs.WordsLaws.{HeadInside, CInside, NInside, RowInside, card-formed, with-head};
 
 // The words before C: r, k and the own card.
@@ -87,6 +87,14 @@ pub(crate) fn is_right(words: &[u64]) -> bool
         return false;
     }
     fits(words.len(), words[0], words[1], words[2])
+}
+
+// Whether it is the replica of card `own` of r cards and k counters, as far as its first three words say.
+pub fn is_in_place(words: &[u64], r: usize, k: usize, own: usize) -> bool
+    requires { ⌜ HeadInside (now words) ⌝ }
+    ensures { λ a. ⌜ a ≡ in-place r k own (now (words .entry)) ⌝ }
+{
+    (words[0] == r as u64) & (words[1] == k as u64) & (words[2] == own as u64)
 }
 
 // C[j] and N[j].
@@ -206,7 +214,7 @@ fn is_own_entry_counted(words: &[u64], r: usize, q: usize) -> bool
     e.c <= increments_at(words, own)
 }
 
-pub(crate) fn is_row_well_formed(words: &[u64], r: usize, q: usize) -> bool
+pub fn is_row_well_formed(words: &[u64], r: usize, q: usize) -> bool
     requires { ⌜ RowInside (now words) r q ⌝ }
     ensures { λ a. ⌜ a ≡ row-well-formed (now (words .entry)) q ⌝ }
 {

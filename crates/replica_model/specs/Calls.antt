@@ -33,6 +33,10 @@ replica-fits r k own words = sizes-in-range r k && ltb own r && eqb words (repli
 unfoldable pub right : List ℕ → Bool
 right b = replica-fits (cards b) (counters b) (own-card b) (length b)
 
+-- whether the replica in place i of a chassis of r cards and k counters is its card's; not so where "its own sizes other than r and k, or its own card not its place"
+abbrev pub in-place : ℕ → ℕ → ℕ → List ℕ → Bool
+in-place r k i b = eqb (cards b) r && eqb (counters b) k && eqb (own-card b) i
+
 -- 2: "Row not well-formed", of row q
 unfoldable pub row-well-formed : List ℕ → ℕ → Bool
 row-well-formed b q = tables-well-formed (cards b) (own-card b) (C-of b) (N-of (cards b) b) (entry-of (cards b) b q)

@@ -1,6 +1,7 @@
 // The calls for a host in C or Rust: each is the proved call under its exported name, with the call's own contract. See include/yelansub.h.
 mod records;
 
+use chassis_model::Delivered;
 use chassis_model::Span;
 use replica_model::Cleared;
 use replica_model::Reading;
@@ -13,6 +14,7 @@ ghost use Rattle.wire.specs.Message.{read-message, WriteOutcome, write-message}
 ghost use Rattle.replica_model.specs.Calls.{OpenOutcome, open-on, read-on, SendOutcome, count-on, clear-on, ClearedOutcome, read-and-clear-on, TakeOutcome, take-on};
 ghost use Rattle.chassis_model.specs.Log.{waiting-span};
 ghost use Rattle.chassis_model.specs.Run.{RunOutcome, run-bytes-on};
+ghost use Rattle.chassis_model.specs.Pending.{DeliverOutcome, deliver-pending-on};
 
 // Ruled out: another own card written, and a replica left as it was with number 0.
 #[no_mangle]
@@ -104,4 +106,19 @@ pub extern "C" fn yelansub_run(
     ensures { λ a. ⌜ _≡_ {A = RunOutcome} (record { number = a; words = now (words .exit); logs = now (logs .exit); answers = now (answers .exit) }) (run-bytes-on cards counters «log_bytes» (now (steps .entry)) (now (words .entry)) (now (logs .entry)) (now (answers .entry))) ⌝ }
 {
     chassis::run::run(cards, counters, log_bytes, steps, words, logs, answers)
+}
+
+// Ruled out: one delivery where more wait, and a number of deliveries that is not the one made.
+#[no_mangle]
+pub extern "C" fn yelansub_deliver_pending(
+    cards: u64,
+    counters: u64,
+    log_bytes: u64,
+    most: u64,
+    words: &mut [u64],
+    logs: &[u8],
+) -> Delivered
+    ensures { λ a. ⌜ _≡_ {A = DeliverOutcome} (record { answer = a; words = now (words .exit) }) (deliver-pending-on cards counters «log_bytes» most (now (words .entry)) (now (logs .entry))) ⌝ }
+{
+    pending::deliver::deliver_pending(cards, counters, log_bytes, most, words, logs)
 }

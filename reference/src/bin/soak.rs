@@ -1,13 +1,14 @@
 //! Random calls, messages, logs and runs against the library for as long as asked, then deeper
 //! exhaustive lists: `cargo run --release --offline --bin soak -- [MINUTES] [FIRST_SEED]`.
 //! One series alone, as long as asked: `-- network [CALLS] [SEED]`, `-- alone [LISTS] [SEED]`,
-//! `-- total [LISTS] [SEED]`, `-- quiet [LISTS] [SEED]`.
+//! `-- total [LISTS] [SEED]`, `-- quiet [LISTS] [SEED]`, `-- pending [LISTS] [SEED]`.
 //! Each round prints its seed; a difference panics with seed and case.
 
 use std::time::{Duration, Instant};
 
 use yelansub_reference::differential::Tally;
-use yelansub_reference::differential::{alone, calls, logs, messages, network, quiet, runs, total};
+use yelansub_reference::differential::{alone, calls, logs, messages, network, pending};
+use yelansub_reference::differential::{quiet, runs, total};
 
 /// Calls of histories for each list, which take about as long.
 const CALLS_A_LIST: u64 = 10;
@@ -41,6 +42,12 @@ fn main() {
             println!("{lists} lists from seed {seed}");
             report(quiet::random_lists(seed, lists, 100), |t| quiet::require_all(t, lists));
         }
+        Some("pending") => {
+            let (lists, seed) = (number(1, 100_000), number(2, 1));
+            println!("{lists} lists, and as many words and logs, from seed {seed}");
+            report(pending::after_runs(seed, lists, 100), pending::require_runs);
+            report(pending::random_states(seed, lists), pending::require_states);
+        }
         _ => every_series(number(0, 10), number(1, 1_000_000)),
     }
 }
@@ -65,9 +72,15 @@ fn every_series(minutes: u64, first: u64) {
         report(total::random_lists(seed, 10_000, 100), |t| total::require_all(t, 10_000));
         report(quiet::random_lists(seed, 10_000, 100), |t| quiet::require_all(t, 10_000));
         report(total::histories(seed, 100_000), total::require_histories);
+        report(pending::after_runs(seed, 5_000, 100), pending::require_runs);
+        report(pending::random_states(seed, 20_000), pending::require_states);
         if Instant::now() > until {
             break;
         }
+    }
+    for (cards, counters, log, depth) in [(2, 1, 400, 6), (2, 2, 300, 4), (3, 1, 300, 5)] {
+        let calls = pending::every_most(cards, counters, log, depth);
+        println!("r {cards}, k {counters}, every list to depth {depth}, every most: {calls}");
     }
     for (cards, counters, log, depth) in
         [(2, 1, 400, 8), (2, 2, 300, 6), (3, 1, 300, 6), (4, 1, 200, 5)]

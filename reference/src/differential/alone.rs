@@ -72,8 +72,8 @@ pub struct List {
 /// What the library's run leaves.
 pub struct After {
     pub answers: Vec<Answer>,
-    words: Vec<u64>,
-    logs: Vec<u8>,
+    pub(super) words: Vec<u64>,
+    pub(super) logs: Vec<u8>,
 }
 
 impl List {
@@ -88,7 +88,7 @@ impl List {
         self.run_on(words, logs)
     }
 
-    fn run_on(&self, mut words: Vec<u64>, mut logs: Vec<u8>) -> After {
+    pub(super) fn run_on(&self, mut words: Vec<u64>, mut logs: Vec<u8>) -> After {
         let mut answers = vec![[u64::MAX; ANSWER_WORDS]; self.steps.len()];
         let steps: Vec<u8> = self.steps.iter().flat_map(|step| step.to_bytes()).collect();
         let (r, k, log_bytes) = (self.cards as u64, self.counters as u64, self.log_bytes as u64);

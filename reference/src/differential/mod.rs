@@ -7,6 +7,7 @@ pub mod generate;
 pub mod logs;
 pub mod messages;
 pub mod network;
+pub mod pending;
 pub mod quiet;
 pub mod runs;
 pub mod total;
@@ -184,6 +185,14 @@ pub fn taken(answer: Result<u64, u64>) -> library::Taken {
     match answer {
         Ok(sequence) => library::Taken { number: OK, sequence },
         Err(number) => library::Taken { number, sequence: 0 },
+    }
+}
+
+/// The reference's answer to delivering what waits in the library's shape.
+pub fn delivered(answer: Result<u64, u64>) -> library::Delivered {
+    match answer {
+        Ok(deliveries) => library::Delivered { number: OK, deliveries },
+        Err(number) => library::Delivered { number, deliveries: 0 },
     }
 }
 

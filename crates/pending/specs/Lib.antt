@@ -1,0 +1,3 @@
+pub mod DeliverLaws
+pub mod Rounds
+pub mod RoundsLaws

@@ -1,0 +1,3 @@
+// Delivering what waits, in rounds, over the words and logs of a run.
+pub mod deliver;
+mod rounds;
