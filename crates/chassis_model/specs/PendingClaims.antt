@@ -1,19 +1,25 @@
 -- CLAIMS. Delivering what waits, in rounds (SPECIFICATION 6.3), over words and logs: what a caller relies on beyond the call's own equation (`Pending`). Each has its
 -- sentence, its statement, and the law that proves it. First of any words and logs; then of those that a run and any number of calls behind it leave.
 use Prim.Native.Nat.{ℕ, _+_, _-_, _*_, _≤_, _<_}
-use mathlib.Core.Path.{_≡_}
+use mathlib.Core.Path.{_≡_, ap}
 use mathlib.Core.Bool.{true, false}
 use mathlib.Core.Logic.{_⊎_}
-use mathlib.Core.List.{List, _++_}
-use lib.ListN.{length, take, replicate}
+use mathlib.Core.List.{List, _++_, map}
+use lib.ListN.{length, take, replicate, length-replicate}
 use Rattle.protocol.specs.Checks.{Decided}
 use Rattle.protocol.specs.RoundRobin.{IsLink, Progress, times, replayed, AllDeliver, PassedOver}
+use Rattle.protocol.specs.Increments.{increments-received}
 use Rattle.replica_model.specs.Layout.{replica-length}
 use Rattle.replica_model.specs.Calls.{read-on}
 use Rattle.chassis_model.specs.ListParts.{part}
-use Rattle.chassis_model.specs.Run.{Step, State, state-of, N-at, answer-length, state-after, RunOutcome, run-on}
-use Rattle.chassis_model.specs.Ledger.{ledger-of, ledger-reading}
+use Rattle.chassis_model.specs.Run.{Step, action-of, State, state-of, N-at, answer-length, numbers-in, values-in, state-after, sizes-right, RunOutcome, run-on}
+use Rattle.chassis_model.specs.Ledger.{ledger-step, accepted-of, ledger-of, ledger-reading}
 use Rattle.chassis_model.specs.Pending.{state-links, pump, all-waiting, pending-checks, none-delivered, delivered-all, deliver-pending-on, words-after-calls, pump-steps, steps-of-calls}
+use Rattle.chassis_model.specs.ReadAndClearOf.{OnlyReadAndClears, collected}
+use Rattle.chassis_model.specs.Alone.{own-steps, own-values}
+use Rattle.chassis_model.specs.RunLaws.{accepted-sizes}
+use Rattle.chassis_model.specs.ReadAndClearClaims.{total}
+use Rattle.chassis_model.specs.AloneClaims.{whole-isolation}
 use Rattle.chassis_model.specs.PendingLaws as laws
 
 -- ---- any words and logs
@@ -75,23 +81,47 @@ module _ (r k L : ℕ) (steps : List Step) (words logs answers : List ℕ) (acce
   abbrev pub all-steps : List Step
   all-steps = steps ++ steps-of-calls r k L bs (ran .words) (ran .logs)
 
+  -- the run's answers, and a number 0 and a value 0 for each of the deliveries
+  abbrev pub all-answers : List ℕ
+  all-answers = ran .answers ++ replicate {A = ℕ} (answer-length * length (steps-of-calls r k L bs (ran .words) (ran .logs))) 0
+
   -- "The ledger counts each pumped delivery as a deliver step.": a run and its calls are the run of the list with the deliveries behind it as deliver steps: it leaves
   -- the same words and logs, and each of these steps is answered with 0 and 0. So every claim on runs is one on a run and its calls.
   pub run-and-calls : (answers′ : List ℕ) → length answers′ ≡ answer-length * length all-steps
       → run-on r k L all-steps words logs answers′
-      ≡ record {
-        number = 0;
-        words = now .words;
-        logs = ran .logs;
-        answers = ran .answers ++ replicate {A = ℕ} (answer-length * length (steps-of-calls r k L bs (ran .words) (ran .logs))) 0;
-      }
+      ≡ record { number = 0; words = now .words; logs = ran .logs; answers = all-answers }
   run-and-calls = laws.run-and-calls r k L steps words logs answers accepted bs
 
   -- The ledger theorem, of a run and its calls.
   pub ledger-theorem-after-calls : (i q : ℕ) → i < r → q < k
       → read-on (part (replica-length r k) (now .words) i) q
-      ≡ ledger-reading r i (ledger-of r q all-steps (ran .answers ++ replicate {A = ℕ} (answer-length * length (steps-of-calls r k L bs (ran .words) (ran .logs))) 0))
+      ≡ ledger-reading r i (ledger-of r q all-steps all-answers)
   ledger-theorem-after-calls = laws.ledger-theorem-after-calls r k L steps words logs answers accepted bs
+
+  -- The total, of a run and its calls: what card h's accepted read and clears of q in the run have answered, and what a read of q on h gives now, add up to the
+  -- increments of q that h has received, those of the calls' deliveries among them.
+  pub total-after-calls : (h q : ℕ) → h < r → q < k → let answered = numbers-in all-answers in
+      OnlyReadAndClears h q (map action-of all-steps) answered
+      → collected h q (map action-of all-steps) answered (values-in all-answers) + read-on (part (replica-length r k) (now .words) h) q .value
+      ≡ increments-received h q (map ledger-step all-steps) (accepted-of answered)
+  total-after-calls h q hh hq =
+      let blank : List ℕ = replicate (answer-length * length all-steps) 0 in
+      let one-run = run-and-calls blank (length-replicate (answer-length * length all-steps) 0) in
+      rw one-run at (total r k L all-steps words logs blank (ap (λ o. o .number) one-run) h q hh hq)
+
+  -- Isolation, of a run and its calls: counter q's own steps, the calls' deliveries of its messages among them, run alone, are all accepted, answer what they answered,
+  -- and leave every card's read of q as it is now.
+  pub isolation-after-calls : (q : ℕ) (words′ logs′ answers′ : List ℕ)
+      → let own = own-steps r k L q all-steps logs in
+      let alone = run-on r k L own words′ logs′ answers′ in
+      sizes-right r k L (length own) words′ logs′ answers′ ≡ true
+      → (numbers-in (alone .answers) ≡ map (λ s. 0) own) × (values-in (alone .answers) ≡ own-values r k L q all-steps logs)
+      × ((i : ℕ) → i < r → q < k → read-on (part (replica-length r k) (alone .words) i) q ≡ read-on (part (replica-length r k) (now .words) i) q)
+  isolation-after-calls q words′ logs′ answers′ right =
+      let blank : List ℕ = replicate (answer-length * length all-steps) 0 in
+      let one-run = run-and-calls blank (length-replicate (answer-length * length all-steps) 0) in
+      let ran-once = accepted-sizes r k L all-steps words logs blank .0 .0 (ap (λ o. o .number) one-run) in
+      rw one-run at (whole-isolation r k L q all-steps words words′ logs logs′ blank answers′ ran-once right)
 
   -- No such call is refused, and in none is a link passed over: take declines no message.
   pub accepted-after-run : (b : ℕ) → deliver-pending-on r k L b (now .words) (ran .logs) .answer .number ≡ 0
