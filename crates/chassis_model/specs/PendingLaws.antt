@@ -95,7 +95,6 @@ module _ (r k L : ℕ) where
       (link-step (l .receiver) (l .sender) st (a .0 .0) (a .0 .1))
       ∙ ap₂ (λ n xs. n ∷ 0 ∷ xs) (eqb-true (done .answer .number) 0 (a .0 .2)) (answered-zeros ls (done .state) (a .1))
       ∙ ap (λ n. replicate {A = ℕ} n 0) (sym next)
-  -- ---- nothing waits
 
 -- ---- any words and logs
 
