@@ -1,8 +1,9 @@
 /*
  * A driver in one process: line cards 0 and 1, and the console as card 2. The
- * cards count drops on counter 0, the console reads, and in the evening takes
- * the day's figure and clears, in one call: a drop that came between a read and
- * a clear would be in no day's figure. A card gives the counter's register to
+ * cards count drops on counter 0, in lots as the hardware reports them and with
+ * one message for each lot; the console reads, and in the evening takes the
+ * day's figure and clears, in one call: a lot that came between a read and a
+ * clear would be in no day's figure. A card gives the counter's register to
  * another port when the counter is quiet there, not when its value is 0.
  *
  *   cc -std=c11 -Iinclude examples/driver.c -Ltarget/staticlib -lyelansub
@@ -33,16 +34,17 @@ static void accepted(const char *what, unsigned card, uint64_t number)
     }
 }
 
-/* A drop on a port: counted here at once, and a message for the others. */
-static struct packet on_drop(unsigned card)
+/* A lot of drops on a port, at most YELANSUB_MOST_AMOUNT: counted here at once, and a message for
+   the others. */
+static struct packet on_drops(unsigned card, uint64_t lot)
 {
     struct packet packet = {.length = 0};
     struct yelansub_sent sent =
-        yelansub_count(replica[card], words, DROPS, packet.bytes, sizeof packet.bytes);
-    accepted("drop", card, sent.number);
+        yelansub_count(replica[card], words, DROPS, lot, packet.bytes, sizeof packet.bytes);
+    accepted("count", card, sent.number);
     packet.length = sent.length;
-    printf("card %u: drop, message %" PRIu64 " of %" PRIu64 " bytes\n", card, sent.sequence,
-           sent.length);
+    printf("card %u: lot of %" PRIu64 ", message %" PRIu64 " of %" PRIu64 " bytes\n", card, lot,
+           sent.sequence, sent.length);
     return packet;
 }
 
@@ -83,25 +85,25 @@ int main(void)
         if (yelansub_open(replica[card], words, CARDS, COUNTERS, card) != YELANSUB_OK)
             return 1;
 
-    struct packet first = on_drop(0), second = on_drop(0), other = on_drop(1);
+    struct packet first = on_drops(0, 3), second = on_drops(0, 250), other = on_drops(1, 1);
     on_message(CONSOLE, &first);
-    on_message(CONSOLE, &first);  /* repeated: 8, the drop is not counted twice */
+    on_message(CONSOLE, &first);  /* repeated: 8, the lot is not counted twice */
     on_message(CONSOLE, &other);
     show(CONSOLE);
 
     struct packet clear = evening(CONSOLE);
     show(CONSOLE);
-    struct packet third = on_drop(0);
+    struct packet third = on_drops(0, 2);
     on_message(CONSOLE, &third);  /* early: 9, the second has not come */
     on_message(CONSOLE, &second);
     on_message(CONSOLE, &third);
     show(CONSOLE);                /* the drops that the clear had not seen: tomorrow's figure */
 
     on_message(0, &clear);
-    show(0);                      /* the same two on the card that counted them */
+    show(0);                      /* the same drops on the card that counted them */
 
     on_message(1, &clear);
-    show(1);                      /* 0, but a drop that it cancels is under way: not quiet */
+    show(1);                      /* 0, but a lot that it cancels is under way: not quiet */
     on_message(1, &first);
     show(1);
     return 0;

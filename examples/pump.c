@@ -18,14 +18,15 @@ static uint64_t replicas[CARDS][YELANSUB_REPLICA_WORDS(CARDS, COUNTERS)];
 static const size_t words = YELANSUB_REPLICA_WORDS(CARDS, COUNTERS);
 static uint8_t logs[CARDS][LOG_BYTES];
 
-/* Cards 0 and 1 count drops. Card 2 has heard of one when it clears, and nobody of the clear. */
+/* Cards 0 and 1 count drops, by the amounts at the end. Card 2 has heard of the first three when it
+   clears, and nobody of the clear. */
 static const struct yelansub_step steps[] = {
-    {YELANSUB_STEP_COUNT, 0, DROPS},
-    {YELANSUB_STEP_COUNT, 0, DROPS},
-    {YELANSUB_STEP_COUNT, 1, DROPS},
-    {YELANSUB_STEP_DELIVER, 2, 0},
-    {YELANSUB_STEP_CLEAR, 2, DROPS},
-    {YELANSUB_STEP_COUNT, 1, DROPS},
+    {YELANSUB_STEP_COUNT, 0, DROPS, 3},
+    {YELANSUB_STEP_COUNT, 0, DROPS, 250},
+    {YELANSUB_STEP_COUNT, 1, DROPS, 1},
+    {YELANSUB_STEP_DELIVER, 2, 0, 0},
+    {YELANSUB_STEP_CLEAR, 2, DROPS, 0},
+    {YELANSUB_STEP_COUNT, 1, DROPS, 40},
 };
 enum { STEPS = sizeof steps / sizeof *steps };
 

@@ -148,10 +148,11 @@ static void made(unsigned i, struct message *message, uint64_t sequence, uint64_
     message->sequence = cards[i].made = sequence;
 }
 
-static void count(unsigned i)
+/* A lot of drops on card i. */
+static void count(unsigned i, uint64_t lot)
 {
     struct message *message = room(i);
-    struct yelansub_sent sent = yelansub_count(cards[i].words, words, DROPS, message->bytes,
+    struct yelansub_sent sent = yelansub_count(cards[i].words, words, DROPS, lot, message->bytes,
                                                sizeof message->bytes);
     expect("the answer to count", sent.number, YELANSUB_OK);
     made(i, message, sent.sequence, sent.length);
@@ -173,26 +174,28 @@ int main(void)
     for (unsigned i = 0; i < CARDS; i++)
         expect("the answer to open", yelansub_open(cards[i].words, words, CARDS, COUNTERS, i), 0);
 
-    /* 100 drops on card 0 and 50 on card 1. Every 20 turns the console collects what it has heard
-       of by then, and the rest when it has heard of all: 150, whatever was lost on the way. */
+    /* 100 lots of 3 drops on card 0, and 50 drops on card 1. Every 20 turns the console collects
+       what it has heard of by then, and the rest when it has heard of all: 350, whatever was lost
+       on the way. */
     uint64_t collected = 0;
     for (unsigned turn = 1; turn <= 100; turn++) {
-        count(0);
+        count(0, 3);
         if (turn % 2 == 0)
-            count(1);
+            count(1, 1);
         go_on();
         if (turn % 20 == 0)
             collected += collect();
     }
     settle();
     collected += collect();
-    expect("the number of drops collected", collected, 150);
+    expect("the number of drops collected", collected, 350);
 
-    /* Four drops on card 0 and three on card 1 that the last clear has not seen: they stay. */
-    for (unsigned drop = 0; drop < 4; drop++)
-        count(0);
+    /* Four lots of 3 on card 0 and three drops on card 1 that the last clear has not seen: they
+       stay. */
+    for (unsigned lot = 0; lot < 4; lot++)
+        count(0, 3);
     for (unsigned drop = 0; drop < 3; drop++)
-        count(1);
+        count(1, 1);
     settle();
 
     /* The cards have written 104 and 53 messages, the console six: two others took each, once.
@@ -207,7 +210,7 @@ int main(void)
         struct yelansub_reading reading = yelansub_read(cards[i].words, words, DROPS);
         printf("card %u: %" PRIu64 " drops, holders %" PRIx64 "\n", i, reading.value,
                reading.holders);
-        expect("the number of drops left", reading.value, 7);
+        expect("the number of drops left", reading.value, 15);
         expect("the mask of cards 0 and 1", reading.holders, 3);
     }
     printf("all cards agree\n");

@@ -14,10 +14,11 @@
  * its own. For a counter that only one card clears, always by
  * yelansub_read_and_clear, the values that it answered there plus what a read
  * on that card gives now are exactly as many as the increments of that counter
- * that the card has received, its own included. Refused clears, and clears of
- * other counters, do not matter for that. Where a counter is quiet on a card
- * (yelansub_read), no increment of it that the card has still to receive is
- * cancelled there already, and none that it has received is still counted.
+ * that the card has received, its own included, an increment by w counting as
+ * w. Refused clears, and clears of other counters, do not matter for that.
+ * Where a counter is quiet on a card (yelansub_read), no increment of it that
+ * the card has still to receive is cancelled there already, and none that it
+ * has received is still counted.
  * yelansub_take answers a message that its sender wrote with 0 if it is the
  * next of that sender, 8 if it was taken before, 9 if an earlier one is
  * missing, 7 on the sender itself, and nothing else. What was answered 0 or 8
@@ -38,9 +39,9 @@
  *     9.
  *   - One chassis to a network: messages carry no chassis number.
  *
- * What counters share is a card's sequence numbers (4), the order of its link
- * (9) and, in a run, its log (14): one counter's messages use these up for
- * all.
+ * What counters share is a card's sequence numbers and units (4), the order of
+ * its link (9) and, in a run, its log (14): one counter's messages use these up
+ * for all.
  *
  * Nothing here prints, allocates, blocks or keeps state, so calls on different
  * replicas may run at the same time. Every call takes any pointer and length
@@ -62,25 +63,30 @@ extern "C" {
 /* Limits: cards 0 to r - 1, counters 0 to k - 1, with r and k at least 1. */
 #define YELANSUB_MOST_CARDS 16
 #define YELANSUB_MOST_COUNTERS 64
-/* The largest sequence, and the most increments of one card: 2^48 - 1. */
+/* A count is by an amount from 1 to this. */
+#define YELANSUB_MOST_AMOUNT 65535
+/* The largest sequence, and the most units that one card counts: 2^48 - 1. */
 #define YELANSUB_MAX UINT64_C(281474976710655)
 
 /* Words of one replica, for r cards and k counters. */
 #define YELANSUB_REPLICA_WORDS(cards, counters) \
     (3 + 2 * (size_t)(cards) + 3 * (size_t)(cards) * (size_t)(counters))
 
-/* Bytes of a message: an increment, a clear of e entries, and the longest. */
-#define YELANSUB_INCREMENT_BYTES 36
+/* Bytes of a message: an increment, one of version 1, a clear of e entries, the longest. */
+#define YELANSUB_INCREMENT_BYTES 40
+#define YELANSUB_PLAIN_INCREMENT_BYTES 36
 #define YELANSUB_CLEAR_BYTES(entries) (28 + 20 * (size_t)(entries))
 #define YELANSUB_LONGEST_MESSAGE YELANSUB_CLEAR_BYTES(YELANSUB_MOST_CARDS)
 
-/* The version of a message, and its kinds. */
-#define YELANSUB_MESSAGE_VERSION 1
+/* The version of a message that every call writes and reads; the version before, without an
+   amount, which only yelansub_read_message and yelansub_write_message know; and the kinds. */
+#define YELANSUB_MESSAGE_VERSION 2
+#define YELANSUB_MESSAGE_VERSION_1 1
 #define YELANSUB_MESSAGE_INCREMENT 1
 #define YELANSUB_MESSAGE_CLEAR 2
 
 /* Bytes of one step of yelansub_run. */
-#define YELANSUB_STEP_BYTES 12
+#define YELANSUB_STEP_BYTES 16
 /* Words of answer for each step: its number, and the value read. */
 #define YELANSUB_ANSWER_WORDS 2
 
@@ -89,7 +95,7 @@ extern "C" {
 #define YELANSUB_BAD_REPLICA 1      /* replica length, r, k or own card wrong */
 #define YELANSUB_BAD_ROW 2          /* the counter's row is not well-formed */
 #define YELANSUB_BAD_COUNTER 3      /* counter not below k */
-#define YELANSUB_EXHAUSTED 4        /* the card has made YELANSUB_MAX messages */
+#define YELANSUB_EXHAUSTED 4        /* the card has no message, or too few units, left */
 #define YELANSUB_SHORT_OUTPUT 5     /* output shorter than the message */
 #define YELANSUB_UNREADABLE 6       /* bytes to read, or a struct to write, are no message */
 #define YELANSUB_BAD_CARD 7         /* a card not below r, or the own card as sender */
@@ -101,9 +107,10 @@ extern "C" {
 #define YELANSUB_NOTHING_WAITING 13 /* nothing to deliver on this link */
 #define YELANSUB_LOG_FULL 14        /* the card's log is too short for the message */
 #define YELANSUB_BAD_LOG 15         /* a log does not begin with what its card has made */
+#define YELANSUB_BAD_AMOUNT 16      /* amount out of range, or not 0 where nothing is counted */
 
 /* Kinds of step. */
-#define YELANSUB_STEP_COUNT 1          /* card, counter */
+#define YELANSUB_STEP_COUNT 1          /* card, counter, amount */
 #define YELANSUB_STEP_CLEAR 2          /* card, counter */
 #define YELANSUB_STEP_DELIVER 3        /* receiver, sender */
 #define YELANSUB_STEP_READ_AND_CLEAR 4 /* card, counter */
@@ -114,16 +121,17 @@ extern "C" {
  *   1  words_len is not YELANSUB_REPLICA_WORDS(cards, counters), cards is not 1
  *      to YELANSUB_MOST_CARDS, counters is not 1 to YELANSUB_MOST_COUNTERS, or
  *      own is not below cards.
- * The words are, in order: r, k, own card; C[j] for each card, its increments
- * received; N[j] for each card, its messages received; then, counter by counter,
- * p, n and c for each card, zeros where that card has no entry.
+ * The words are, in order: r, k, own card; C[j] for each card, its units
+ * received, w for an increment by w; N[j] for each card, its messages received;
+ * then, counter by counter, p, n and c for each card, zeros where that card has
+ * no entry.
  */
 uint64_t yelansub_open(uint64_t *words, size_t words_len,
                        uint64_t cards, uint64_t counters, uint64_t own);
 
 struct yelansub_reading {
     uint64_t number;
-    uint64_t value;        /* increments received and not cleared: at most 16 (2^48 - 1) */
+    uint64_t value;        /* units received and not cleared: at most 16 (2^48 - 1) */
     uint64_t holders;      /* bit j is one if card j has an entry */
     uint64_t holder_count; /* ones in holders */
 };
@@ -149,21 +157,28 @@ struct yelansub_sent {
 };
 
 /*
- * Counts one on the own card and writes the message to send, always of
- * YELANSUB_INCREMENT_BYTES. Refused with, in this order,
- *   1, 3, 2  as yelansub_read,
- *   4  the card has made its last message,
- *   5  out_len is below YELANSUB_INCREMENT_BYTES.
- * After a refusal neither the replica nor the output has changed: the drop is
+ * Counts `amount` on the own card, all of it or nothing, and writes one message
+ * to send, always of YELANSUB_INCREMENT_BYTES. To all that is read, cleared and
+ * added up it is as many increments by one, with nothing between them. Refused
+ * with, in this order,
+ *   1, 3  as yelansub_read,
+ *   16  amount is not 1 to YELANSUB_MOST_AMOUNT,
+ *   2   as yelansub_read,
+ *   4   the card has made its last message, or its C and the amount are above
+ *       YELANSUB_MAX,
+ *   5   out_len is below YELANSUB_INCREMENT_BYTES.
+ * After a refusal neither the replica nor the output has changed: the drops are
  * not counted.
  */
 struct yelansub_sent yelansub_count(uint64_t *words, size_t words_len, uint64_t counter,
-                                    uint8_t *out, size_t out_len);
+                                    uint64_t amount, uint8_t *out, size_t out_len);
 
 /*
  * Clears what this card has seen of a counter and writes the message to send,
  * YELANSUB_CLEAR_BYTES of its number of holders; YELANSUB_LONGEST_MESSAGE bytes
- * of output are enough for any. Refused as yelansub_count, with
+ * of output are enough for any. Refused with, in this order,
+ *   1, 3, 2  as yelansub_read,
+ *   4  the card has made its last message,
  *   5  out_len is below the length of this message.
  */
 struct yelansub_sent yelansub_clear(uint64_t *words, size_t words_len, uint64_t counter,
@@ -182,7 +197,7 @@ struct yelansub_cleared {
  * nothing comes in between. Refusals, and all that it leaves in words and out,
  * are those of yelansub_clear. Where one card alone clears a counter, always by
  * this call, the values answered and its present value add up to the number of
- * increments that it has received.
+ * units that it has received.
  */
 struct yelansub_cleared yelansub_read_and_clear(uint64_t *words, size_t words_len, uint64_t counter,
                                                 uint8_t *out, size_t out_len);
@@ -197,7 +212,8 @@ struct yelansub_taken {
  * order made; those of different senders may come in any. Refused with, in this
  * order,
  *   1   the words are no replica,
- *   6   the bytes are not exactly one message, or a field is out of range,
+ *   6   the bytes are not exactly one message of YELANSUB_MESSAGE_VERSION, or a
+ *       field is out of range,
  *   3   the message's counter is not below k,
  *   2   the counter's row is not well-formed,
  *   7   the sender or a card of the message is not below r, or the sender is
@@ -215,18 +231,19 @@ struct yelansub_clear_entry {
 };
 
 /*
- * A message held whole. An increment uses p and start, a clear len and the first
- * len entries; all that its kind does not use is 0, the entries from len on
- * included. So a message has one form.
+ * A message held whole. An increment uses p, start and, but in version 1, amount;
+ * a clear len and the first len entries. All that its version and its kind do not
+ * use is 0, the entries from len on included. So a message has one form.
  */
 struct yelansub_message {
-    uint32_t version;  /* YELANSUB_MESSAGE_VERSION */
+    uint32_t version;  /* YELANSUB_MESSAGE_VERSION or YELANSUB_MESSAGE_VERSION_1 */
     uint32_t kind;     /* YELANSUB_MESSAGE_INCREMENT or YELANSUB_MESSAGE_CLEAR */
     uint32_t sender;   /* below YELANSUB_MOST_CARDS */
     uint64_t sequence; /* 1 to YELANSUB_MAX, counting the sender's messages from 1 */
     uint32_t counter;  /* below YELANSUB_MOST_COUNTERS */
     uint64_t p;        /* increment: 1 to YELANSUB_MAX */
     uint32_t start;    /* increment: 0 or 1 */
+    uint32_t amount;   /* increment: 1 to YELANSUB_MOST_AMOUNT, but 0 in version 1 */
     size_t len;        /* clear: how many entries, 0 to YELANSUB_MOST_CARDS */
     struct yelansub_clear_entry entries[YELANSUB_MOST_CARDS];
 };
@@ -237,8 +254,8 @@ struct yelansub_message_reading {
 };
 
 /*
- * Reads bytes as one message and changes nothing: to trace what goes over a
- * link. Refused with
+ * Reads bytes as one message, of either version, and changes nothing: to trace
+ * what goes over a link. Refused with
  *   6  the bytes are not exactly one message, or a field is out of range.
  * A message that reads may still be one that yelansub_take refuses: the format
  * knows no r, no k and no replica.
@@ -251,11 +268,13 @@ struct yelansub_written {
 };
 
 /*
- * Writes a message to the first bytes of out: YELANSUB_INCREMENT_BYTES for an
- * increment, YELANSUB_CLEAR_BYTES(len) for a clear. What it writes,
- * yelansub_read_message reads as the same message; what that call has read is
- * written as the same bytes. Refused with, in this order,
- *   6  a field is out of range, or one that the kind does not use is not 0,
+ * Writes a message, of either version, to the first bytes of out:
+ * YELANSUB_INCREMENT_BYTES for an increment, in version 1
+ * YELANSUB_PLAIN_INCREMENT_BYTES, and YELANSUB_CLEAR_BYTES(len) for a clear. What
+ * it writes, yelansub_read_message reads as the same message; what that call has
+ * read is written as the same bytes. Refused with, in this order,
+ *   6  a field is out of range, or one that the version or the kind does not use
+ *      is not 0,
  *   5  out_len is below the length of this message.
  * After a refusal no byte of out has changed.
  */
@@ -270,7 +289,8 @@ struct yelansub_span {
 /*
  * Where message number q of a log stands, counting from 1. The log holds
  * messages end to end. Answers start and length in bytes, or 0 and 0 if q is 0
- * or the log does not begin with q messages that read.
+ * or the log does not begin with q messages of YELANSUB_MESSAGE_VERSION that
+ * read.
  */
 struct yelansub_span yelansub_waiting(const uint8_t *log, size_t log_len, uint64_t q);
 
@@ -278,8 +298,9 @@ struct yelansub_span yelansub_waiting(const uint8_t *log, size_t log_len, uint64
  * Runs steps on a whole chassis that begins fresh. words holds the cards'
  * replicas, card by card; logs holds log_bytes bytes for each card, where its
  * messages are put end to end; answers has YELANSUB_ANSWER_WORDS words for each
- * step. A step is three unsigned ints, big-endian: kind (YELANSUB_STEP_...),
- * then card and counter, or receiver and sender. Answers 0, or
+ * step. A step is four unsigned ints, big-endian: kind (YELANSUB_STEP_...), then
+ * card and counter, or receiver and sender, then the amount of a count, and 0 for
+ * the other kinds. Answers 0, or
  *   11  cards is not 1 to YELANSUB_MOST_CARDS, counters is not 1 to
  *       YELANSUB_MOST_COUNTERS, steps_len is no multiple of
  *       YELANSUB_STEP_BYTES, or words_len, logs_len or answers_len does not fit.
@@ -287,7 +308,9 @@ struct yelansub_span yelansub_waiting(const uint8_t *log, size_t log_len, uint64
  *   12  there is no such kind,
  *   7   a card is not below cards, or a delivery names one card twice,
  *   3   the counter is not below counters (not for a delivery),
- *   4   the card has made its last message (not for a delivery),
+ *   16  the amount of a count is not 1 to YELANSUB_MOST_AMOUNT, or that of
+ *       another kind is not 0,
+ *   4   as yelansub_count and yelansub_clear (not for a delivery),
  *   14  the card's log has too little room left (not for a delivery),
  *   13  the sender has no message that the receiver has not had (delivery).
  * The second is the value that an accepted YELANSUB_STEP_READ_AND_CLEAR has
@@ -302,7 +325,7 @@ uint64_t yelansub_run(uint64_t cards, uint64_t counters, uint64_t log_bytes,
                       uint64_t *answers, size_t answers_len);
 
 struct yelansub_step {
-    uint32_t kind, first, second;
+    uint32_t kind, first, second, amount;
 };
 
 /*

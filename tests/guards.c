@@ -111,15 +111,16 @@ static uint64_t any(uint64_t below)
 static const struct yelansub_message no_message;
 
 /* An increment, or a clear of `entries` cards from 0 on, its fields as large as they may be. */
-static struct yelansub_message message_of(unsigned kind, size_t entries)
+static struct yelansub_message message_of(unsigned version, unsigned kind, size_t entries)
 {
-    struct yelansub_message m = {.version = YELANSUB_MESSAGE_VERSION, .kind = kind};
+    struct yelansub_message m = {.version = version, .kind = kind};
     m.sender = YELANSUB_MOST_CARDS - 1;
     m.sequence = YELANSUB_MAX;
     m.counter = YELANSUB_MOST_COUNTERS - 1;
     if (kind == YELANSUB_MESSAGE_INCREMENT) {
         m.p = YELANSUB_MAX;
         m.start = 1;
+        m.amount = version == YELANSUB_MESSAGE_VERSION_1 ? 0 : YELANSUB_MOST_AMOUNT;
     }
     for (m.len = 0; m.len < entries; m.len++)
         m.entries[m.len] = (struct yelansub_clear_entry){(uint32_t)m.len, 1 + m.len, YELANSUB_MAX - m.len};
@@ -148,12 +149,15 @@ static uint8_t *put_header(uint8_t *at, const struct yelansub_message *m)
 }
 
 /* The bytes of a message, its fields in range or not; gives how many. What is no increment is
-   written as a clear; an entry more than there are is the first again. */
+   written as a clear; an entry more than there are is the first again. In version 1 there is no
+   amount. */
 static size_t put_message(uint8_t *out, const struct yelansub_message *m)
 {
     uint8_t *at = put_header(out, m);
-    if (m->kind == YELANSUB_MESSAGE_INCREMENT)
-        return (size_t)(put_int(put_hyper(at, m->p), m->start) - out);
+    if (m->kind == YELANSUB_MESSAGE_INCREMENT) {
+        at = put_int(put_hyper(at, m->p), m->start);
+        return (size_t)((m->version == YELANSUB_MESSAGE_VERSION_1 ? at : put_int(at, m->amount)) - out);
+    }
     at = put_int(at, (uint32_t)m->len);
     for (size_t i = 0; i < m->len; i++) {
         const struct yelansub_clear_entry *entry = &m->entries[i % YELANSUB_MOST_CARDS];
@@ -167,7 +171,7 @@ static int same(const struct yelansub_message *a, const struct yelansub_message 
 {
     int fields = a->version == b->version && a->kind == b->kind && a->sender == b->sender &&
                  a->sequence == b->sequence && a->counter == b->counter && a->p == b->p &&
-                 a->start == b->start && a->len == b->len;
+                 a->start == b->start && a->amount == b->amount && a->len == b->len;
     for (size_t i = 0; i < YELANSUB_MOST_CARDS; i++)
         fields = fields && a->entries[i].card == b->entries[i].card &&
                  a->entries[i].p == b->entries[i].p && a->entries[i].c == b->entries[i].c;
@@ -178,15 +182,21 @@ static int same(const struct yelansub_message *a, const struct yelansub_message 
 static const unsigned making[] = {YELANSUB_STEP_COUNT, YELANSUB_STEP_CLEAR, YELANSUB_STEP_READ_AND_CLEAR};
 enum { MAKING = sizeof making / sizeof *making };
 
-/* The call of that kind; one that reads no value gives 0. */
-static struct yelansub_cleared make(unsigned kind, uint64_t *words, size_t len, uint64_t counter, uint8_t *out,
-                                    size_t room)
+/* The call of that kind; one that reads no value gives 0, and only a count looks at the amount. */
+static struct yelansub_cleared make_by(unsigned kind, uint64_t *words, size_t len, uint64_t counter, uint64_t amount,
+                                       uint8_t *out, size_t room)
 {
     if (kind == YELANSUB_STEP_READ_AND_CLEAR)
         return yelansub_read_and_clear(words, len, counter, out, room);
-    struct yelansub_sent sent = kind == YELANSUB_STEP_COUNT ? yelansub_count(words, len, counter, out, room)
+    struct yelansub_sent sent = kind == YELANSUB_STEP_COUNT ? yelansub_count(words, len, counter, amount, out, room)
                                                             : yelansub_clear(words, len, counter, out, room);
     return (struct yelansub_cleared){sent.number, 0, sent.sequence, sent.length};
+}
+
+static struct yelansub_cleared make(unsigned kind, uint64_t *words, size_t len, uint64_t counter, uint8_t *out,
+                                    size_t room)
+{
+    return make_by(kind, words, len, counter, 1, out, room);
 }
 
 static int refused(struct yelansub_cleared made, uint64_t number)
@@ -224,7 +234,8 @@ static void no_memory(void)
         HOLD(yelansub_take(fresh, len, p, 0).number == YELANSUB_UNREADABLE);
         struct yelansub_message_reading read = yelansub_read_message(p, 0);
         HOLD(read.number == YELANSUB_UNREADABLE && same(&read.message, &no_message));
-        struct yelansub_written written = yelansub_write_message(message_of(YELANSUB_MESSAGE_CLEAR, 0), p, 0);
+        struct yelansub_written written = yelansub_write_message(
+            message_of(YELANSUB_MESSAGE_VERSION, YELANSUB_MESSAGE_CLEAR, 0), p, 0);
         HOLD(written.number == YELANSUB_SHORT_OUTPUT && !written.length);
         written = yelansub_write_message(no_message, p, 0);
         HOLD(written.number == YELANSUB_UNREADABLE && !written.length);
@@ -347,9 +358,49 @@ static void refused_take(int at_end, struct change change, struct yelansub_messa
     drop(&m);
 }
 
+/* Counts on card 0 of two, each by an amount that is none or that there is no room for. */
+static void refused_counts(int at_end)
+{
+    static const uint64_t wrong[] = {0, YELANSUB_MOST_AMOUNT + 1, UINT32_MAX, UINT64_C(1) << 32,
+                                     (UINT64_C(1) << 32) + 1, UINT64_MAX};
+    static const uint64_t right[] = {1, 2, YELANSUB_MOST_AMOUNT};
+    const struct change changes[] = {
+        {CARDS_AT, CARDS}, {entry_at(CARDS, 0, 0) + P, 1}, {messages_at(CARDS, 0), YELANSUB_MAX}};
+    struct area o = area(YELANSUB_INCREMENT_BYTES, at_end);
+    keep(&o);
+    doing = "count by a wrong amount";
+    for (size_t i = 0; i < sizeof wrong / sizeof *wrong; i++)
+        for (size_t of = 0; of < sizeof changes / sizeof *changes; of++) { /* before 2, 4 and 5 */
+            struct area w = opened(changes[of], at_end);
+            HOLD(refused(make_by(YELANSUB_STEP_COUNT, in(&w), WORDS, 0, wrong[i], in(&o), of == 0 ? 0 : o.len),
+                         YELANSUB_BAD_AMOUNT));
+            HOLD(refused(make_by(YELANSUB_STEP_COUNT, in(&w), WORDS, 1, wrong[i], in(&o), o.len),
+                         YELANSUB_BAD_COUNTER));
+            HOLD(unchanged(&w) && unchanged(&o));
+            drop(&w);
+        }
+    doing = "count of the last units";
+    for (size_t i = 0; i < sizeof right / sizeof *right; i++)
+        for (uint64_t over = 0; over < 2; over++) {
+            struct area w = opened(SET(increments_at(0), YELANSUB_MAX - right[i] + over), at_end);
+            struct area m = area(YELANSUB_INCREMENT_BYTES, at_end);
+            keep(&m);
+            struct yelansub_cleared made = make_by(YELANSUB_STEP_COUNT, in(&w), WORDS, 0, right[i], in(&m), m.len);
+            if (over)
+                HOLD(refused(made, YELANSUB_EXHAUSTED) && unchanged(&w) && unchanged(&m));
+            else
+                HOLD(made.number == YELANSUB_OK && only(&w, w.len) && only(&m, m.len) &&
+                     ((uint64_t *)in(&w))[increments_at(0)] == YELANSUB_MAX);
+            drop(&w);
+            drop(&m);
+        }
+    drop(&o);
+}
+
 static void refusals(int at_end)
 {
-    const size_t c0 = increments_at(0), n0 = messages_at(CARDS, 0), n1 = messages_at(CARDS, 1);
+    const size_t c0 = increments_at(0), c1 = increments_at(1);
+    const size_t n0 = messages_at(CARDS, 0), n1 = messages_at(CARDS, 1);
     const size_t entry0 = entry_at(CARDS, 0, 0), entry1 = entry_at(CARDS, 0, 1);
     const size_t any_room = YELANSUB_LONGEST_MESSAGE;
     const struct change none = {CARDS_AT, CARDS};
@@ -360,7 +411,8 @@ static void refusals(int at_end)
     refused_send(at_end, SET(OWN_AT, CARDS), 0, any_room, YELANSUB_BAD_REPLICA);
     refused_send(at_end, none, 1, any_room, YELANSUB_BAD_COUNTER);
     refused_send(at_end, none, UINT64_MAX, any_room, YELANSUB_BAD_COUNTER);
-    refused_send(at_end, SET(c0, 1), 0, any_room, YELANSUB_BAD_ROW); /* C above N */
+    refused_send(at_end, SET(c0, YELANSUB_MAX + 1), 0, any_room, YELANSUB_BAD_ROW);
+    refused_send(at_end, SET(c1, YELANSUB_MAX + 1), 0, any_room, YELANSUB_BAD_ROW);
     refused_send(at_end, SET(n0, YELANSUB_MAX + 1), 0, any_room, YELANSUB_BAD_ROW);
     refused_send(at_end, SET(n1, YELANSUB_MAX + 1), 0, any_room, YELANSUB_BAD_ROW);
     refused_send(at_end, SET(entry0 + P, 1), 0, any_room, YELANSUB_BAD_ROW); /* p above c */
@@ -376,13 +428,15 @@ static void refusals(int at_end)
     struct yelansub_message next = {.version = YELANSUB_MESSAGE_VERSION, .sender = 1, .sequence = 1};
     struct yelansub_message increment = next, clear = next, m;
     increment.kind = YELANSUB_MESSAGE_INCREMENT;
-    increment.p = increment.start = 1;
+    increment.p = increment.start = increment.amount = 1;
     clear.kind = YELANSUB_MESSAGE_CLEAR;
     clear.len = 1;
     clear.entries[0] = (struct yelansub_clear_entry){1, 1, 1};
 #define WITH(message, field, value) (m = (message), m.field = (value), m)
     refused_take(at_end, SET(CARDS_AT, CARDS + 1), increment, YELANSUB_BAD_REPLICA);
     refused_take(at_end, none, WITH(increment, version, YELANSUB_MESSAGE_VERSION + 1), YELANSUB_UNREADABLE);
+    refused_take(at_end, none, WITH(increment, version, YELANSUB_MESSAGE_VERSION_1), YELANSUB_UNREADABLE);
+    refused_take(at_end, none, WITH(clear, version, YELANSUB_MESSAGE_VERSION_1), YELANSUB_UNREADABLE);
     refused_take(at_end, none, WITH(clear, kind, 0), YELANSUB_UNREADABLE);
     refused_take(at_end, none, WITH(clear, kind, YELANSUB_MESSAGE_CLEAR + 1), YELANSUB_UNREADABLE);
     refused_take(at_end, none, WITH(increment, sender, YELANSUB_MOST_CARDS), YELANSUB_UNREADABLE);
@@ -392,16 +446,19 @@ static void refusals(int at_end)
     refused_take(at_end, none, WITH(increment, p, 0), YELANSUB_UNREADABLE);
     refused_take(at_end, none, WITH(increment, p, YELANSUB_MAX + 1), YELANSUB_UNREADABLE);
     refused_take(at_end, none, WITH(increment, start, 2), YELANSUB_UNREADABLE);
+    refused_take(at_end, none, WITH(increment, amount, 0), YELANSUB_UNREADABLE);
+    refused_take(at_end, none, WITH(increment, amount, YELANSUB_MOST_AMOUNT + 1), YELANSUB_UNREADABLE);
+    refused_take(at_end, none, WITH(increment, amount, UINT32_MAX), YELANSUB_UNREADABLE);
     refused_take(at_end, none, WITH(clear, entries[0].card, YELANSUB_MOST_CARDS), YELANSUB_UNREADABLE);
     refused_take(at_end, none, WITH(clear, entries[0].p, 0), YELANSUB_UNREADABLE);
     refused_take(at_end, none, WITH(clear, entries[0].p, 2), YELANSUB_UNREADABLE);
     refused_take(at_end, none, WITH(clear, entries[0].c, YELANSUB_MAX + 1), YELANSUB_UNREADABLE);
     refused_take(at_end, none, WITH(clear, len, 2), YELANSUB_UNREADABLE); /* card 0 after card 1 */
-    struct yelansub_message full = message_of(YELANSUB_MESSAGE_CLEAR, YELANSUB_MOST_CARDS);
+    struct yelansub_message full = message_of(YELANSUB_MESSAGE_VERSION, YELANSUB_MESSAGE_CLEAR, YELANSUB_MOST_CARDS);
     refused_take(at_end, none, WITH(full, len, YELANSUB_MOST_CARDS + 1), YELANSUB_UNREADABLE);
     refused_take(at_end, none, WITH(increment, counter, 1), YELANSUB_BAD_COUNTER);
     refused_take(at_end, none, WITH(increment, counter, YELANSUB_MOST_COUNTERS - 1), YELANSUB_BAD_COUNTER);
-    refused_take(at_end, SET(c0, 1), increment, YELANSUB_BAD_ROW);
+    refused_take(at_end, SET(c0, YELANSUB_MAX + 1), increment, YELANSUB_BAD_ROW);
     refused_take(at_end, none, WITH(increment, sender, 0), YELANSUB_BAD_CARD); /* the own card */
     refused_take(at_end, none, WITH(increment, sender, CARDS), YELANSUB_BAD_CARD);
     refused_take(at_end, none, WITH(increment, sender, YELANSUB_MOST_CARDS - 1), YELANSUB_BAD_CARD);
@@ -413,19 +470,30 @@ static void refusals(int at_end)
     refused_take(at_end, none, WITH(increment, p, 2), YELANSUB_IMPLAUSIBLE);
     refused_take(at_end, none, WITH(increment, p, YELANSUB_MAX), YELANSUB_IMPLAUSIBLE);
     refused_take(at_end, none, WITH(increment, start, 0), YELANSUB_IMPLAUSIBLE);
+    refused_take(at_end, none, WITH(increment, amount, 2), YELANSUB_IMPLAUSIBLE);
+    refused_take(at_end, none, WITH(increment, amount, YELANSUB_MOST_AMOUNT), YELANSUB_IMPLAUSIBLE);
+    /* Card 1 has counted all but one, and would go on by two. */
+    struct yelansub_message two = increment;
+    two.start = 0;
+    two.amount = 2;
+    two.p = 3;
+    refused_take(at_end, SET(c1, YELANSUB_MAX - 1), two, YELANSUB_IMPLAUSIBLE);
+    refused_take(at_end, SET(c1, 9), WITH(two, p, 2), YELANSUB_IMPLAUSIBLE); /* p up to the amount */
     refused_take(at_end, none, clear, YELANSUB_IMPLAUSIBLE); /* of an increment that its sender has not made */
     refused_take(at_end, none, WITH(clear, entries[0].card, 0), YELANSUB_IMPLAUSIBLE); /* nor this card */
 #undef WITH
 }
 
-/* Every message length, with one byte of output too few, none to spare, and more. */
-static void exact_messages(int at_end)
+/* Every message length of a version, with one byte of output too few, none to spare, and more. */
+static void exact_messages(unsigned version, int at_end)
 {
+    size_t increment_bytes =
+        version == YELANSUB_MESSAGE_VERSION_1 ? YELANSUB_PLAIN_INCREMENT_BYTES : YELANSUB_INCREMENT_BYTES;
     for (size_t entries = 0; entries <= YELANSUB_MOST_CARDS + 1; entries++) {
         int is_clear = entries <= YELANSUB_MOST_CARDS;
-        struct yelansub_message message =
-            is_clear ? message_of(YELANSUB_MESSAGE_CLEAR, entries) : message_of(YELANSUB_MESSAGE_INCREMENT, 0);
-        size_t bytes = is_clear ? YELANSUB_CLEAR_BYTES(entries) : YELANSUB_INCREMENT_BYTES;
+        struct yelansub_message message = is_clear ? message_of(version, YELANSUB_MESSAGE_CLEAR, entries)
+                                                   : message_of(version, YELANSUB_MESSAGE_INCREMENT, 0);
+        size_t bytes = is_clear ? YELANSUB_CLEAR_BYTES(entries) : increment_bytes;
         uint8_t due[YELANSUB_LONGEST_MESSAGE];
         doing = "the length of a message";
         HOLD(put_message(due, &message) == bytes);
@@ -449,15 +517,22 @@ static void exact_messages(int at_end)
     }
 }
 
-/* Each field out of range, and each that the kind does not use not 0. */
+/* Each field out of range, and each that the version or the kind does not use not 0. */
 static void refused_messages(int at_end)
 {
     enum { LAST = YELANSUB_MOST_CARDS - 1 };
-    struct yelansub_message wrong[32], increment = message_of(YELANSUB_MESSAGE_INCREMENT, 0);
-    struct yelansub_message clear = message_of(YELANSUB_MESSAGE_CLEAR, 3);
+    struct yelansub_message increment = message_of(YELANSUB_MESSAGE_VERSION, YELANSUB_MESSAGE_INCREMENT, 0);
+    struct yelansub_message clear = message_of(YELANSUB_MESSAGE_VERSION, YELANSUB_MESSAGE_CLEAR, 3);
+    struct yelansub_message plain = message_of(YELANSUB_MESSAGE_VERSION_1, YELANSUB_MESSAGE_INCREMENT, 0);
+    struct yelansub_message plain_clear = message_of(YELANSUB_MESSAGE_VERSION_1, YELANSUB_MESSAGE_CLEAR, 3);
+    struct yelansub_message wrong[40];
     size_t n = 0;
 #define WRONG(of, field, value) (wrong[n] = (of), wrong[n++].field = (value))
     WRONG(increment, version, YELANSUB_MESSAGE_VERSION + 1);
+    WRONG(increment, version, YELANSUB_MESSAGE_VERSION_1); /* with an amount */
+    WRONG(plain, version, YELANSUB_MESSAGE_VERSION);       /* without one */
+    WRONG(plain, amount, 1);
+    WRONG(plain_clear, amount, 1);
     WRONG(increment, kind, 0);
     WRONG(increment, kind, YELANSUB_MESSAGE_CLEAR + 1);
     WRONG(increment, sender, YELANSUB_MOST_CARDS);
@@ -467,6 +542,8 @@ static void refused_messages(int at_end)
     WRONG(increment, p, 0);
     WRONG(increment, p, YELANSUB_MAX + 1);
     WRONG(increment, start, 2);
+    WRONG(increment, amount, 0);
+    WRONG(increment, amount, YELANSUB_MOST_AMOUNT + 1);
     WRONG(increment, len, 1);
     WRONG(increment, len, SIZE_MAX);
     WRONG(increment, entries[0].card, 1);
@@ -475,6 +552,7 @@ static void refused_messages(int at_end)
     WRONG(clear, kind, YELANSUB_MESSAGE_INCREMENT);
     WRONG(clear, p, 1);
     WRONG(clear, start, 1);
+    WRONG(clear, amount, 1);
     WRONG(clear, len, 2);
     WRONG(clear, len, 4);
     WRONG(clear, len, YELANSUB_MOST_CARDS + 1);
@@ -498,7 +576,8 @@ static void refused_messages(int at_end)
     drop(&o);
 }
 
-/* Every card counts, one clears by this kind of step, all take: outputs as long as needed, or one or two bytes more. */
+/* Every card counts, card i by i + 1, one clears by this kind of step, all take: outputs as long as needed, or one or
+   two bytes more. */
 static void exact_buffers(unsigned cards, unsigned counters, unsigned clear, int at_end)
 {
     size_t len = YELANSUB_REPLICA_WORDS(cards, counters);
@@ -514,7 +593,8 @@ static void exact_buffers(unsigned cards, unsigned counters, unsigned clear, int
         doing = "read of what all have counted";
         for (unsigned i = 0; i < cards; i++) {
             struct yelansub_reading reading = yelansub_read(in(&w[i]), len, counter);
-            HOLD(reading.number == YELANSUB_OK && reading.value == made && reading.holder_count == made);
+            HOLD(reading.number == YELANSUB_OK && reading.value == made * (made + 1) / 2);
+            HOLD(reading.holder_count == made);
             HOLD(reading.holders == (UINT64_C(1) << made) - 1);
         }
         unsigned maker = made % cards;
@@ -525,9 +605,9 @@ static void exact_buffers(unsigned cards, unsigned counters, unsigned clear, int
         keep(&m);
         keep(&w[maker]);
         doing = "count and clear";
-        struct yelansub_cleared sent = make(kind, in(&w[maker]), len, counter, in(&m), room);
+        struct yelansub_cleared sent = make_by(kind, in(&w[maker]), len, counter, maker + 1, in(&m), room);
         HOLD(sent.number == YELANSUB_OK && sent.length == bytes && only(&m, bytes) && only(&w[maker], w[maker].len));
-        HOLD(sent.value == (kind == YELANSUB_STEP_READ_AND_CLEAR ? cards : 0));
+        HOLD(sent.value == (kind == YELANSUB_STEP_READ_AND_CLEAR ? cards * (cards + 1) / 2 : 0));
         doing = "take";
         keep(&m);
         for (unsigned to = 0; to < cards; to++) {
@@ -552,7 +632,9 @@ static void exact_buffers(unsigned cards, unsigned counters, unsigned clear, int
    such a message. Its entries are of cards from 2 on where there are so many, so that a fresh card 0 takes it. */
 static void put_front(uint8_t *bytes, size_t length)
 {
-    struct yelansub_message m = {.version = YELANSUB_MESSAGE_VERSION, .sender = 1, .sequence = 1, .p = 1, .start = 1};
+    struct yelansub_message m = {.version = any(4) ? YELANSUB_MESSAGE_VERSION : YELANSUB_MESSAGE_VERSION_1,
+                                 .sender = 1, .sequence = 1, .start = 1};
+    m.p = m.amount = (uint32_t)(any(2) ? 1 : 1 + any(YELANSUB_MOST_AMOUNT));
     size_t most = 0;
     while (most < YELANSUB_MOST_CARDS && YELANSUB_CLEAR_BYTES(most + 1) <= length)
         most++;
@@ -574,11 +656,12 @@ static void exact_logs(int at_end)
     for (size_t entries = 0; entries <= YELANSUB_MOST_CARDS + 1; entries++) {
         int is_clear = entries <= YELANSUB_MOST_CARDS;
         struct yelansub_message message =
-            is_clear ? message_of(YELANSUB_MESSAGE_CLEAR, entries) : message_of(YELANSUB_MESSAGE_INCREMENT, 0);
+            is_clear ? message_of(YELANSUB_MESSAGE_VERSION, YELANSUB_MESSAGE_CLEAR, entries)
+                     : message_of(YELANSUB_MESSAGE_VERSION, YELANSUB_MESSAGE_INCREMENT, 0);
         uint8_t bytes[YELANSUB_LONGEST_MESSAGE];
         message.sender = message.counter = 0;
         message.sequence = 1;
-        message.p = !is_clear;
+        message.p = message.amount;
         size_t whole = put_message(bytes, &message);
         for (size_t log = 0; log <= whole + 2; log++)
             for (unsigned cards = 1; cards <= 2; cards++) {
@@ -610,7 +693,7 @@ static void odd_bytes(int at_end)
 {
     size_t len = YELANSUB_REPLICA_WORDS(YELANSUB_MOST_CARDS, 1);
     struct area w = area(len * sizeof(uint64_t), at_end);
-    unsigned accepted = 0, refused = 0, increments = 0, clears = 0, unreadable = 0, waiting = 0;
+    unsigned accepted = 0, refused = 0, increments = 0, clears = 0, plain = 0, unreadable = 0, waiting = 0;
     for (size_t length = 0; length < YELANSUB_LONGEST_MESSAGE + 80; length++) {
         struct area m = area(length, at_end), o = area(length, at_end);
         uint8_t *bytes = in(&m);
@@ -630,8 +713,10 @@ static void odd_bytes(int at_end)
             doing = "reading odd bytes, and writing what was read";
             struct yelansub_message_reading read = yelansub_read_message(bytes, length);
             HOLD(unchanged(&m));
+            int is_plain = read.message.version == YELANSUB_MESSAGE_VERSION_1;
             if (read.number == YELANSUB_OK) {
-                *(read.message.kind == YELANSUB_MESSAGE_CLEAR ? &clears : &increments) += 1;
+                *(is_plain ? &plain : read.message.kind == YELANSUB_MESSAGE_CLEAR ? &clears : &increments) += 1;
+                HOLD(!is_plain || taken.number == YELANSUB_UNREADABLE);
             } else {
                 HOLD(read.number == YELANSUB_UNREADABLE && same(&read.message, &no_message));
                 HOLD(taken.number == YELANSUB_UNREADABLE);
@@ -650,18 +735,18 @@ static void odd_bytes(int at_end)
                 HOLD(span.start <= length && span.length <= length - span.start && unchanged(&m));
                 waiting += span.length > 0;
                 if (read.number == YELANSUB_OK)
-                    HOLD(span.start == 0 && span.length == (q == 1 ? length : 0));
+                    HOLD(span.start == 0 && span.length == (q == 1 && !is_plain ? length : 0));
             }
         }
         drop(&m);
         drop(&o);
     }
     doing = "nothing of one kind among the odd bytes";
-    HOLD(accepted && refused && increments && clears && unreadable && waiting > increments + clears);
+    HOLD(accepted && refused && increments && clears && plain && unreadable && waiting > increments + clears);
     drop(&w);
 }
 
-#define LAST_ANSWER YELANSUB_BAD_LOG /* the greatest number there is */
+#define LAST_ANSWER YELANSUB_BAD_AMOUNT /* the greatest number there is */
 static unsigned answered[LAST_ANSWER + 1]; /* how often a step gave each number */
 
 /* The last of the kinds of step, which are numbered from 1. */
@@ -767,8 +852,11 @@ static void runs(unsigned cards, unsigned counters, uint64_t log, size_t steps, 
         uint32_t kind = (uint32_t)(1 + any(LAST_KIND + (any(9) == 0)));
         uint32_t first = (uint32_t)any(cards + (any(9) == 0));
         uint32_t second = (uint32_t)any((kind == YELANSUB_STEP_DELIVER ? cards : counters) + (any(9) == 0));
-        record[i] = (struct yelansub_step){kind, first, second};
-        step = put_int(put_int(put_int(step, kind), first), second);
+        uint32_t amount = kind == YELANSUB_STEP_COUNT ? (uint32_t)(any(2) ? 1 : 1 + any(YELANSUB_MOST_AMOUNT)) : 0;
+        if (any(19) == 0)
+            amount = (uint32_t)(any(2) ? any(2) : YELANSUB_MOST_AMOUNT + any(2));
+        record[i] = (struct yelansub_step){kind, first, second, amount};
+        step = put_int(put_int(put_int(put_int(step, kind), first), second), amount);
     }
     struct area *all[] = {&s, &w, &l, &a, &records};
     for (size_t i = 0; i < sizeof all / sizeof *all; i++)
@@ -845,12 +933,12 @@ static void exactly(const unsigned *met, const unsigned *given, size_t len)
     }
 }
 
-/* Every number that a step can give was given, and no other. YELANSUB_EXHAUSTED needs YELANSUB_MAX messages of one
-   card first. The same of delivering what waits. */
+/* Every number that a step can give was given, and no other. YELANSUB_EXHAUSTED needs YELANSUB_MAX messages or units of
+   one card first. The same of delivering what waits. */
 static void all_answers(void)
 {
     static const unsigned given[] = {YELANSUB_OK, YELANSUB_BAD_COUNTER, YELANSUB_BAD_CARD, YELANSUB_BAD_KIND,
-                                     YELANSUB_NOTHING_WAITING, YELANSUB_LOG_FULL};
+                                     YELANSUB_NOTHING_WAITING, YELANSUB_LOG_FULL, YELANSUB_BAD_AMOUNT};
     static const unsigned to_pump[] = {YELANSUB_OK, YELANSUB_BAD_REPLICA, YELANSUB_BAD_ROW, YELANSUB_BAD_SIZES,
                                        YELANSUB_BAD_LOG};
     doing = "answers of steps";
@@ -867,7 +955,9 @@ int main(void)
     for (int at_end = 0; at_end < 2; at_end++) {
         refused_heads(at_end);
         refusals(at_end);
-        exact_messages(at_end);
+        refused_counts(at_end);
+        exact_messages(YELANSUB_MESSAGE_VERSION_1, at_end);
+        exact_messages(YELANSUB_MESSAGE_VERSION, at_end);
         refused_messages(at_end);
         for (unsigned cards = 1; cards <= YELANSUB_MOST_CARDS; cards++)
             for (size_t of = 1; of < MAKING; of++) { /* the kinds that clear */

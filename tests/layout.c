@@ -53,6 +53,7 @@ FIELD(yelansub_message, sequence, 16, 8);
 FIELD(yelansub_message, counter, 24, 4);
 FIELD(yelansub_message, p, 32, 8);
 FIELD(yelansub_message, start, 40, 4);
+FIELD(yelansub_message, amount, 44, 4);
 FIELD(yelansub_message, len, 48, 8);
 FIELD(yelansub_message, entries, 56, 24 * YELANSUB_MOST_CARDS);
 
@@ -68,10 +69,11 @@ STRUCT(yelansub_span, 16, 8);
 FIELD(yelansub_span, start, 0, 8);
 FIELD(yelansub_span, length, 8, 8);
 
-STRUCT(yelansub_step, 12, 4);
+STRUCT(yelansub_step, 16, 4);
 FIELD(yelansub_step, kind, 0, 4);
 FIELD(yelansub_step, first, 4, 4);
 FIELD(yelansub_step, second, 8, 4);
+FIELD(yelansub_step, amount, 12, 4);
 
 STRUCT(yelansub_delivered, 16, 8);
 FIELD(yelansub_delivered, number, 0, 8);
@@ -79,7 +81,9 @@ FIELD(yelansub_delivered, deliveries, 8, 8);
 
 /* The message format says what the header says. */
 static_assert(FORMAT_MESSAGE_VERSION == YELANSUB_MESSAGE_VERSION, "version");
+static_assert(FORMAT_MESSAGE_VERSION_1 == YELANSUB_MESSAGE_VERSION_1, "the version before");
 static_assert(FORMAT_INCREMENT == YELANSUB_MESSAGE_INCREMENT, "kind of an increment");
 static_assert(FORMAT_CLEAR == YELANSUB_MESSAGE_CLEAR, "kind of a clear");
 static_assert(FORMAT_MOST_CARDS == YELANSUB_MOST_CARDS, "cards");
 static_assert(FORMAT_MOST_COUNTERS == YELANSUB_MOST_COUNTERS, "counters");
+static_assert(FORMAT_MOST_AMOUNT == YELANSUB_MOST_AMOUNT, "amount");

@@ -33,7 +33,7 @@ if ! diff "$work/declared" "$work/held" >&2; then
 fi
 
 # The constants of the message format: "const YELANSUB_NAME = 1;" and "YELANSUB_NAME = 1,".
-sed -n 's/^\(const\)\{0,1\} *YELANSUB_\([A-Z_]*\) = \([0-9]*\)[;,]\{0,1\}$/#define FORMAT_\2 \3/p' \
+sed -n 's/^\(const\)\{0,1\} *YELANSUB_\([A-Z_0-9]*\) = \([0-9]*\)[;,]\{0,1\}$/#define FORMAT_\2 \3/p' \
     "$root/include/message.x" > "$work/format.h"
 set -- -Wall -Wextra -Werror -I"$root/include" -I"$work" -fsyntax-only
 gcc -std=c11 "$@" "$root/tests/layout.c"

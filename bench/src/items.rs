@@ -8,7 +8,7 @@ use yelansub_reference::chassis::{self, Buffers, Step};
 use yelansub_reference::differential::messages::form_of;
 use yelansub_reference::library;
 use yelansub_reference::limits::*;
-use yelansub_reference::message::{self, Body, Entries, Entry, Message};
+use yelansub_reference::message::{self, Body, Entries, Entry, Message, CURRENT};
 use yelansub_reference::random::Random;
 use yelansub_reference::replica::{self, entry_at, increments_at, messages_at};
 
@@ -18,6 +18,8 @@ pub const CARDS: usize = MOST_CARDS;
 pub const COUNTERS: usize = MOST_COUNTERS;
 /// Calls in a batch: one for each counter.
 pub const CALLS: u64 = COUNTERS as u64;
+/// What a count is by; also in the steps below.
+const AMOUNT: u32 = 3;
 const LOG_BYTES: usize = 1 << 16;
 const LONGEST_RUN: usize = 100_000;
 
@@ -270,8 +272,13 @@ fn with_messages(body: fn(u64) -> Body) -> State {
     let mut state = full();
     for counter in 0..COUNTERS {
         let sequence = 1_001 + counter as u64;
-        let message =
-            Message { sender: 1, sequence, counter: counter as u32, body: body(counter as u64) };
+        let message = Message {
+            version: CURRENT,
+            sender: 1,
+            sequence,
+            counter: counter as u32,
+            body: body(counter as u64),
+        };
         let mut out = [0; LONGEST_MESSAGE];
         let length = message::write(&message, &mut out).expect("in range");
         state.bytes.push(out[..length].to_vec());
@@ -290,7 +297,7 @@ fn with_messages(body: fn(u64) -> Body) -> State {
 }
 
 fn increments() -> State {
-    with_messages(|counter| Body::Increment { p: 200 + counter, start: false })
+    with_messages(|counter| Body::Increment { p: 200 + counter, start: false, amount: AMOUNT })
 }
 
 fn clears() -> State {
@@ -321,7 +328,7 @@ fn steps(len: usize, clear: fn(u32, u32) -> Step) -> State {
         let counter = random.below(4) as u32;
         let step = match (place % CARDS, random.below(8)) {
             (0, 0) => clear(card, counter),
-            (0, _) => Step::count(card, counter),
+            (0, _) => Step::count_by(card, counter, AMOUNT),
             _ => Step::deliver(other, card),
         };
         state.steps.extend(step.to_bytes());
@@ -348,8 +355,10 @@ fn waiting(cards: usize, most: u64) -> State {
     let mut made = Vec::new();
     for card in (0..MADE).flat_map(|_| 0..cards as u32) {
         let counter = random.below(4) as u32;
-        let step = if random.below(8) == 0 { Step::clear } else { Step::count };
-        made.push(step(card, counter));
+        made.push(match random.below(8) {
+            0 => Step::clear(card, counter),
+            _ => Step::count_by(card, counter, AMOUNT),
+        });
     }
     let delivered = in_rounds(cards, &made, most);
     pump(cards, &made, &delivered, most)
@@ -369,7 +378,7 @@ fn in_calls_of_one() -> State {
 fn one_link(most: u64) -> State {
     let mut made = Vec::new();
     for counter in (0..MADE).map(|place| place as u32 % 4) {
-        made.push(Step::count(0, counter));
+        made.push(Step::count_by(0, counter, AMOUNT));
         made.extend((1..CARDS as u32 - 1).map(|card| Step::deliver(card, 0)));
     }
     let delivered = in_rounds(CARDS, &made, most);
@@ -442,12 +451,12 @@ fn reference_read(s: &mut State, counter: usize) {
 }
 
 fn library_count(s: &mut State, counter: usize) {
-    black_box(library::count(&mut s.words, counter as u64, &mut s.out));
+    black_box(library::count(&mut s.words, counter as u64, AMOUNT.into(), &mut s.out));
 }
 
 #[inline(never)]
 fn reference_count(s: &mut State, counter: usize) {
-    let _ = black_box(replica::count(&mut s.words, counter as u64, &mut s.out));
+    let _ = black_box(replica::count(&mut s.words, counter as u64, AMOUNT.into(), &mut s.out));
 }
 
 fn library_clear(s: &mut State, counter: usize) {
@@ -498,7 +507,7 @@ fn library_read_message(s: &mut State, counter: usize) {
 
 #[inline(never)]
 fn reference_read_message(s: &mut State, counter: usize) {
-    black_box(message::read(&s.bytes[counter]));
+    black_box(message::read_alone(&s.bytes[counter]));
 }
 
 fn rpcgen_read(s: &mut State, counter: usize) {
@@ -521,8 +530,8 @@ fn reference_write_message(s: &mut State, counter: usize) {
 fn rpcgen_write(s: &mut State, counter: usize) {
     let m = &s.messages[counter];
     black_box(match m.body {
-        Body::Increment { p, start } => {
-            rpcgen::write_increment(m.sender, m.sequence, m.counter, p, start, &mut s.out)
+        Body::Increment { p, start, amount } => {
+            rpcgen::write_increment(m.sender, m.sequence, m.counter, p, start, amount, &mut s.out)
         }
         Body::Clear(_) => {
             let entries = &mut s.entries[counter];

@@ -18,6 +18,7 @@ mod raw {
             counter: u32,
             p: u64,
             start: u32,
+            amount: u32,
             out: *mut u8,
             len: usize,
         ) -> usize;
@@ -43,11 +44,12 @@ pub fn write_increment(
     counter: u32,
     p: u64,
     start: bool,
+    amount: u32,
     out: &mut [u8],
 ) -> usize {
     unsafe {
         let (at, len) = (out.as_mut_ptr(), out.len());
-        raw::rpcgen_write_increment(sender, sequence, counter, p, start.into(), at, len)
+        raw::rpcgen_write_increment(sender, sequence, counter, p, start.into(), amount, at, len)
     }
 }
 

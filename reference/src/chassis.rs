@@ -15,23 +15,30 @@ pub struct Step {
     pub kind: u32,
     pub first: u32,
     pub second: u32,
+    /// 0 where the kind does not count.
+    pub amount: u32,
 }
 
 impl Step {
+    /// By one.
     pub const fn count(card: u32, counter: u32) -> Step {
-        Step { kind: STEP_COUNT, first: card, second: counter }
+        Step::count_by(card, counter, 1)
+    }
+
+    pub const fn count_by(card: u32, counter: u32, amount: u32) -> Step {
+        Step { kind: STEP_COUNT, first: card, second: counter, amount }
     }
 
     pub const fn clear(card: u32, counter: u32) -> Step {
-        Step { kind: STEP_CLEAR, first: card, second: counter }
+        Step { kind: STEP_CLEAR, first: card, second: counter, amount: 0 }
     }
 
     pub const fn read_and_clear(card: u32, counter: u32) -> Step {
-        Step { kind: STEP_READ_AND_CLEAR, first: card, second: counter }
+        Step { kind: STEP_READ_AND_CLEAR, first: card, second: counter, amount: 0 }
     }
 
     pub const fn deliver(receiver: u32, sender: u32) -> Step {
-        Step { kind: STEP_DELIVER, first: receiver, second: sender }
+        Step { kind: STEP_DELIVER, first: receiver, second: sender, amount: 0 }
     }
 
     /// Whether it is of a kind that clears.
@@ -39,16 +46,26 @@ impl Step {
         [STEP_CLEAR, STEP_READ_AND_CLEAR].contains(&self.kind)
     }
 
+    /// Whether its kind can have its amount.
+    pub fn amount_fits(self) -> bool {
+        if self.kind == STEP_COUNT {
+            is_amount(self.amount.into())
+        } else {
+            self.amount == 0
+        }
+    }
+
     pub fn from_bytes(bytes: &[u8; STEP_BYTES]) -> Step {
         let fields = bytes.as_chunks::<INT>().0;
         let field = |at: usize| u32::from_be_bytes(fields[at]);
-        Step { kind: field(0), first: field(1), second: field(2) }
+        Step { kind: field(0), first: field(1), second: field(2), amount: field(3) }
     }
 
     pub fn to_bytes(self) -> [u8; STEP_BYTES] {
         let mut bytes = [0; STEP_BYTES];
         let fields = bytes.as_chunks_mut::<INT>().0;
-        for (place, field) in fields.iter_mut().zip([self.kind, self.first, self.second]) {
+        let Step { kind, first, second, amount } = self;
+        for (place, field) in fields.iter_mut().zip([kind, first, second, amount]) {
             *place = field.to_be_bytes();
         }
         bytes
@@ -160,12 +177,14 @@ struct Chassis<'a> {
 impl Chassis<'_> {
     /// Gives the value read, which is 0 for all kinds but one.
     fn step(&mut self, step: Step) -> Result<u64, u64> {
-        let unread = Cleared::unread;
+        let (unread, amount) = (Cleared::unread, step.amount.into());
         match step.kind {
-            STEP_COUNT => self.send(step, |w, q, out| replica::count(w, q, out).map(unread)),
+            STEP_COUNT => {
+                self.send(step, |w, q, out| replica::count(w, q, amount, out).map(unread))
+            }
             STEP_CLEAR => self.send(step, |w, q, out| replica::clear(w, q, out).map(unread)),
             STEP_READ_AND_CLEAR => self.send(step, replica::read_and_clear),
-            STEP_DELIVER => self.deliver(step.first as usize, step.second as usize).map(|()| 0),
+            STEP_DELIVER => self.deliver(step).map(|()| 0),
             _ => Err(BAD_KIND),
         }
     }
@@ -182,6 +201,9 @@ impl Chassis<'_> {
         if step.second as usize >= self.counters {
             return Err(BAD_COUNTER);
         }
+        if !step.amount_fits() {
+            return Err(BAD_AMOUNT);
+        }
         let words = &mut self.words[card * self.each..][..self.each];
         let log = &mut self.logs[card * self.log_bytes..][..self.log_bytes];
         let out = &mut log[self.used[card]..];
@@ -195,9 +217,13 @@ impl Chassis<'_> {
         }
     }
 
-    fn deliver(&mut self, receiver: usize, sender: usize) -> Result<(), u64> {
+    fn deliver(&mut self, step: Step) -> Result<(), u64> {
+        let (receiver, sender) = (step.first as usize, step.second as usize);
         if receiver >= self.cards || sender >= self.cards || receiver == sender {
             return Err(BAD_CARD);
+        }
+        if !step.amount_fits() {
+            return Err(BAD_AMOUNT);
         }
         let own_messages = &self.logs[sender * self.log_bytes..][..self.used[sender]];
         let from = self.next[receiver][sender];

@@ -1,46 +1,45 @@
 //! SPECIFICATION 7, the ledger: for one counter, which names each card has received and which are
 //! cancelled there. It is fed steps and whether each was accepted, and nothing else.
 
-use std::collections::{BTreeMap, BTreeSet, VecDeque};
+use std::collections::{BTreeSet, VecDeque};
 
 use crate::chassis::Step;
 use crate::limits::{STEP_CLEAR, STEP_COUNT, STEP_DELIVER, STEP_READ_AND_CLEAR};
-
-/// A card's first, second, ... increment of the counter.
-pub type Name = (usize, u64);
+use crate::names::Names;
 
 #[derive(Clone, Debug, Default)]
 struct Card {
-    received: BTreeSet<Name>,
-    cancelled: BTreeSet<Name>,
+    received: Names,
+    cancelled: Names,
 }
 
 impl Card {
-    /// The cards with a name in exactly one of the two sets.
-    fn holding(&self) -> BTreeSet<usize> {
-        self.received.symmetric_difference(&self.cancelled).map(|name| name.0).collect()
+    fn counting(&self) -> Names {
+        self.received.without(&self.cancelled)
     }
 
-    fn latest(&self, card: usize) -> u64 {
-        let names = (card, 1)..(card + 1, 0);
-        let last = |set: &BTreeSet<Name>| set.range(names.clone()).next_back().map(|name| name.1);
-        last(&self.received).max(last(&self.cancelled)).unwrap_or(0)
+    /// The cards with a name in exactly one of the two sets.
+    fn holding(&self) -> BTreeSet<usize> {
+        let ahead = self.cancelled.without(&self.received);
+        self.counting().cards().chain(ahead.cards()).collect()
     }
 
     fn apply(&mut self, message: &Message) {
-        self.received.extend(message.adds);
-        for (card, latest) in &message.cancels {
-            self.cancelled.extend((1..=*latest).map(|number| (*card, number)));
-        }
+        self.received.join(&message.adds);
+        self.cancelled.join(&message.cancels);
     }
 }
 
 /// A message as the ledger sees it; one of another counter adds and cancels nothing.
 #[derive(Clone, Debug, Default)]
 struct Message {
-    adds: Option<Name>,
-    /// For each card, the latest of its names that this cancels, with all before it.
-    cancels: BTreeMap<usize, u64>,
+    adds: Names,
+    cancels: Names,
+}
+
+/// The card's names up to this one.
+fn up_to(card: usize, latest: u64) -> Names {
+    Names::of(card, 1..latest + 1)
 }
 
 #[derive(Clone, Debug)]
@@ -79,8 +78,11 @@ impl Ledger {
         }
         match step.kind {
             STEP_COUNT => {
-                let message =
-                    if second == self.counter { self.count(first) } else { Message::default() };
+                let message = if second == self.counter {
+                    self.count(first, step.amount.into())
+                } else {
+                    Message::default()
+                };
                 self.send(first, message);
                 Ok(())
             }
@@ -101,22 +103,23 @@ impl Ledger {
         }
     }
 
-    fn count(&mut self, maker: usize) -> Message {
-        let card = &self.cards[maker];
-        let counting = card.received.difference(&card.cancelled).any(|name| name.0 == maker);
-        let mut message = Message::default();
-        if !counting {
-            message.cancels.insert(maker, self.made[maker]);
+    fn count(&mut self, maker: usize, amount: u64) -> Message {
+        let counting = self.cards[maker].counting().cards().any(|card| card == maker);
+        let before = self.made[maker];
+        self.made[maker] += amount;
+        Message {
+            adds: Names::of(maker, before + 1..before + amount + 1),
+            cancels: if counting { Names::default() } else { up_to(maker, before) },
         }
-        self.made[maker] += 1;
-        message.adds = Some((maker, self.made[maker]));
-        message
     }
 
     fn clear(&self, maker: usize) -> Message {
-        let card = &self.cards[maker];
-        let cancels = card.holding().into_iter().map(|other| (other, card.latest(other))).collect();
-        Message { adds: None, cancels }
+        let Card { received, cancelled } = &self.cards[maker];
+        let mut message = Message::default();
+        for card in self.cards[maker].holding() {
+            message.cancels.join(&up_to(card, received.latest(card).max(cancelled.latest(card))));
+        }
+        message
     }
 
     /// The maker applies its own message when making it; every link from it queues it.
@@ -141,16 +144,15 @@ impl Ledger {
         card.received.len() == card.cancelled.len()
     }
 
-    /// Whether some increment that a link has still to hand over to the card is cancelled there.
+    /// Whether some unit that a link has still to hand over to the card is cancelled there.
     pub fn has_cancelled_ahead(&self, card: usize) -> bool {
-        let under_way = self.links.iter().flat_map(|links| &links[card]);
-        let mut increments = under_way.filter_map(|message| message.adds);
-        increments.any(|name| self.cards[card].cancelled.contains(&name))
+        let cancelled = &self.cards[card].cancelled;
+        let mut under_way = self.links.iter().flat_map(|links| &links[card]);
+        under_way.any(|message| message.adds.without(cancelled) != message.adds)
     }
 
     pub fn value(&self, card: usize) -> u64 {
-        let card = &self.cards[card];
-        card.received.difference(&card.cancelled).count() as u64
+        self.cards[card].counting().len()
     }
 
     /// Bit j is one when card j is holding.

@@ -9,6 +9,7 @@ pub mod ledger;
 pub mod limits;
 pub mod listing;
 pub mod message;
+pub mod names;
 pub mod random;
 pub mod replica;
 

@@ -58,7 +58,7 @@ pub struct Span {
     pub length: u64,
 }
 
-/// What its kind does not use is 0, the entries from `len` on included.
+/// What its version and its kind do not use is 0, the entries from `len` on included.
 #[repr(C)]
 #[derive(Clone, Copy, Debug, Default, PartialEq, Eq)]
 pub struct Message {
@@ -69,6 +69,7 @@ pub struct Message {
     pub counter: u32,
     pub p: u64,
     pub start: u32,
+    pub amount: u32,
     pub len: usize,
     pub entries: [Entry; MOST_CARDS],
 }
@@ -115,13 +116,13 @@ laid_out!(Cleared, 32, 8, { number: 0, value: 8, sequence: 16, length: 24 });
 laid_out!(Taken, 16, 8, { number: 0, sequence: 8 });
 laid_out!(Entry, 24, 8, { card: 0, p: 8, c: 16 });
 laid_out!(Message, 56 + 24 * MOST_CARDS, 8, {
-    version: 0, kind: 4, sender: 8, sequence: 16, counter: 24, p: 32, start: 40, len: 48,
-    entries: 56
+    version: 0, kind: 4, sender: 8, sequence: 16, counter: 24, p: 32, start: 40, amount: 44,
+    len: 48, entries: 56
 });
 laid_out!(MessageReading, 64 + 24 * MOST_CARDS, 8, { number: 0, message: 8 });
 laid_out!(Written, 16, 8, { number: 0, length: 8 });
 laid_out!(Span, 16, 8, { start: 0, length: 8 });
-laid_out!(Step, 12, 4, { kind: 0, first: 4, second: 8 });
+laid_out!(Step, 16, 4, { kind: 0, first: 4, second: 8, amount: 12 });
 laid_out!(Delivered, 16, 8, { number: 0, deliveries: 8 });
 
 mod raw {
@@ -141,6 +142,7 @@ mod raw {
             words: *mut u64,
             words_len: usize,
             counter: u64,
+            amount: u64,
             out: *mut u8,
             out_len: usize,
         ) -> Sent;
@@ -234,8 +236,9 @@ pub fn read(words: &[u64], counter: u64) -> Reading {
     unsafe { raw::yelansub_read(lend(words), words.len(), counter) }
 }
 
-pub fn count(words: &mut [u64], counter: u64, out: &mut [u8]) -> Sent {
-    unsafe { raw::yelansub_count(lend_mut(words), words.len(), counter, lend_mut(out), out.len()) }
+pub fn count(words: &mut [u64], counter: u64, amount: u64, out: &mut [u8]) -> Sent {
+    let (at, len) = (lend_mut(words), words.len());
+    unsafe { raw::yelansub_count(at, len, counter, amount, lend_mut(out), out.len()) }
 }
 
 pub fn clear(words: &mut [u64], counter: u64, out: &mut [u8]) -> Sent {

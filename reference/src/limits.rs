@@ -5,7 +5,14 @@
 /// Cards of a chassis, and entries of a clear.
 pub const MOST_CARDS: usize = 16;
 pub const MOST_COUNTERS: usize = 64;
-/// The largest sequence, and the most increments of one card.
+/// The largest amount of a count; the least is 1.
+pub const MOST_AMOUNT: u64 = 65_535;
+
+pub const fn is_amount(amount: u64) -> bool {
+    1 <= amount && amount <= MOST_AMOUNT
+}
+
+/// The largest sequence, and the most units that one card counts.
 pub const MAX: u64 = (1 << 48) - 1;
 
 /// Words of a replica before those of its cards: r, k and the own card.
@@ -18,7 +25,9 @@ pub const fn replica_words(cards: usize, counters: usize) -> usize {
     HEAD_WORDS + 2 * cards + ENTRY_WORDS * cards * counters
 }
 
-pub const INCREMENT_BYTES: usize = 36;
+/// Bytes of an increment without its amount, as in version 1, and with it.
+pub const PLAIN_INCREMENT_BYTES: usize = 36;
+pub const INCREMENT_BYTES: usize = 40;
 
 pub const fn clear_bytes(entries: usize) -> usize {
     28 + 20 * entries
@@ -26,12 +35,14 @@ pub const fn clear_bytes(entries: usize) -> usize {
 
 pub const LONGEST_MESSAGE: usize = clear_bytes(MOST_CARDS);
 
-pub const MESSAGE_VERSION: u32 = 1;
+/// The version before amounts, and the one that cards write and take.
+pub const MESSAGE_VERSION_1: u32 = 1;
+pub const MESSAGE_VERSION: u32 = 2;
 pub const MESSAGE_INCREMENT: u32 = 1;
 pub const MESSAGE_CLEAR: u32 = 2;
 
 /// Bytes of one step of a run.
-pub const STEP_BYTES: usize = 12;
+pub const STEP_BYTES: usize = 16;
 /// Words of answer for each step: its number, and the value read.
 pub const ANSWER_WORDS: usize = 2;
 pub const STEP_COUNT: u32 = 1;
@@ -47,7 +58,7 @@ pub const BAD_REPLICA: u64 = 1;
 pub const BAD_ROW: u64 = 2;
 /// Counter not below k.
 pub const BAD_COUNTER: u64 = 3;
-/// Own N = MAX.
+/// Own N = MAX, or own C + w above MAX.
 pub const EXHAUSTED: u64 = 4;
 /// Output shorter than the message.
 pub const SHORT_OUTPUT: u64 = 5;
@@ -69,3 +80,5 @@ pub const NOTHING_WAITING: u64 = 13;
 pub const LOG_FULL: u64 = 14;
 /// A log does not begin with its card's messages, or a receiver's N is above its sender's.
 pub const BAD_LOG: u64 = 15;
+/// Amount out of range, or not 0 in a step that does not count.
+pub const BAD_AMOUNT: u64 = 16;

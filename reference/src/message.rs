@@ -1,4 +1,5 @@
 //! SPECIFICATION 2, the message: big-endian, every field in range, the length exact.
+//! What cards send is of the current version; a message alone is of either.
 
 use crate::limits::*;
 
@@ -13,6 +14,7 @@ const HEADER_BYTES: usize = 24;
 // Behind the header of an increment.
 const P_AT: usize = 0;
 const START_AT: usize = 8;
+const AMOUNT_AT: usize = 12;
 
 // In an entry of a clear. The entries follow a word that counts them.
 const ENTRY_CARD_AT: usize = 0;
@@ -63,14 +65,49 @@ impl PartialEq for Entries {
     }
 }
 
+/// A version: its number, and whether its increments have an amount. Nothing else differs.
+#[derive(Clone, Copy, Debug, PartialEq, Eq)]
+pub struct Version {
+    pub number: u32,
+    pub has_amount: bool,
+}
+
+pub const PLAIN: Version = Version { number: MESSAGE_VERSION_1, has_amount: false };
+pub const CURRENT: Version = Version { number: MESSAGE_VERSION, has_amount: true };
+pub const VERSIONS: [Version; 2] = [PLAIN, CURRENT];
+
+impl Version {
+    pub fn increment_bytes(self) -> usize {
+        if self.has_amount {
+            INCREMENT_BYTES
+        } else {
+            PLAIN_INCREMENT_BYTES
+        }
+    }
+
+    fn amount_in_range(self, amount: u32) -> bool {
+        if self.has_amount {
+            is_amount(amount.into())
+        } else {
+            amount == 0
+        }
+    }
+}
+
 #[derive(Clone, Copy, Debug, PartialEq)]
 pub enum Body {
-    Increment { p: u64, start: bool },
+    /// The amount is 0 where the version has none.
+    Increment {
+        p: u64,
+        start: bool,
+        amount: u32,
+    },
     Clear(Entries),
 }
 
 #[derive(Clone, Copy, Debug, PartialEq)]
 pub struct Message {
+    pub version: Version,
     pub sender: u32,
     pub sequence: u64,
     pub counter: u32,
@@ -81,15 +118,26 @@ impl Message {
     /// Bytes that the written message takes.
     pub fn length(&self) -> usize {
         match &self.body {
-            Body::Increment { .. } => INCREMENT_BYTES,
+            Body::Increment { .. } => self.version.increment_bytes(),
             Body::Clear(entries) => clear_bytes(entries.len),
         }
+    }
+
+    /// The same in version 1, which has no amount.
+    pub fn plain(mut self) -> Message {
+        self.version = PLAIN;
+        if let Body::Increment { amount, .. } = &mut self.body {
+            *amount = 0;
+        }
+        self
     }
 
     fn in_range(&self) -> bool {
         header_in_range(self.sender, self.sequence, self.counter)
             && match &self.body {
-                Body::Increment { p, .. } => positive(*p),
+                Body::Increment { p, amount, .. } => {
+                    positive(*p) && self.version.amount_in_range(*amount)
+                }
                 Body::Clear(entries) => entries_in_range(entries.as_slice()),
             }
     }
@@ -119,34 +167,42 @@ fn hyper(bytes: &[u8], at: usize) -> u64 {
     u64::from_be_bytes(*bytes[at..].first_chunk().expect("within the fields"))
 }
 
-/// The message at the front of `bytes`, whatever follows it.
+/// The message of a card at the front of `bytes`, whatever follows it.
 pub fn read_front(bytes: &[u8]) -> Option<Message> {
-    read_if(bytes, |_| true)
+    read_if(bytes, CURRENT, |_| true)
 }
 
-/// The message that `bytes` are, no byte more; otherwise they do not read (6).
+/// The message of a card that `bytes` are, no byte more; otherwise they do not read (6).
 pub fn read(bytes: &[u8]) -> Option<Message> {
-    read_if(bytes, |length| length == bytes.len())
+    read_if(bytes, CURRENT, |length| length == bytes.len())
+}
+
+/// The same of a message alone, in the version that it says.
+pub fn read_alone(bytes: &[u8]) -> Option<Message> {
+    let number = u32::from_be_bytes(*bytes.first_chunk()?);
+    let version = VERSIONS.into_iter().find(|version| version.number == number)?;
+    read_if(bytes, version, |length| length == bytes.len())
 }
 
 #[inline]
-fn read_if(bytes: &[u8], fits: impl Fn(usize) -> bool) -> Option<Message> {
+fn read_if(bytes: &[u8], version: Version, fits: impl Fn(usize) -> bool) -> Option<Message> {
     let (head, rest) = bytes.split_first_chunk::<HEADER_BYTES>()?;
     let sender = int(head, SENDER_AT);
     let sequence = hyper(head, SEQUENCE_AT);
     let counter = int(head, COUNTER_AT);
-    if int(head, VERSION_AT) != MESSAGE_VERSION || !header_in_range(sender, sequence, counter) {
+    if int(head, VERSION_AT) != version.number || !header_in_range(sender, sequence, counter) {
         return None;
     }
     match int(head, KIND_AT) {
-        MESSAGE_INCREMENT if fits(INCREMENT_BYTES) => {
-            let fields = rest.first_chunk::<{ INCREMENT_BYTES - HEADER_BYTES }>()?;
+        MESSAGE_INCREMENT if fits(version.increment_bytes()) => {
+            let fields = rest.get(..version.increment_bytes() - HEADER_BYTES)?;
             let (p, start) = (hyper(fields, P_AT), int(fields, START_AT));
-            if !positive(p) || start > 1 {
+            let amount = if version.has_amount { int(fields, AMOUNT_AT) } else { 0 };
+            if !positive(p) || start > 1 || !version.amount_in_range(amount) {
                 return None;
             }
-            let body = Body::Increment { p, start: start == 1 };
-            Some(Message { sender, sequence, counter, body })
+            let body = Body::Increment { p, start: start == 1, amount };
+            Some(Message { version, sender, sequence, counter, body })
         }
         MESSAGE_CLEAR => {
             let (count, rest) = rest.split_first_chunk::<4>()?;
@@ -166,7 +222,7 @@ fn read_if(bytes: &[u8], fits: impl Fn(usize) -> bool) -> Option<Message> {
             if !entries_in_range(entries.as_slice()) {
                 return None;
             }
-            Some(Message { sender, sequence, counter, body: Body::Clear(entries) })
+            Some(Message { version, sender, sequence, counter, body: Body::Clear(entries) })
         }
         _ => None,
     }
@@ -180,15 +236,18 @@ pub fn write(message: &Message, out: &mut [u8]) -> Result<usize, u64> {
     let length = message.length();
     let out = out.get_mut(..length).ok_or(SHORT_OUTPUT)?;
     let (head, rest) = out.split_first_chunk_mut::<HEADER_BYTES>().expect("longer than that");
-    set_int(head, VERSION_AT, MESSAGE_VERSION);
+    set_int(head, VERSION_AT, message.version.number);
     set_int(head, SENDER_AT, message.sender);
     set_hyper(head, SEQUENCE_AT, message.sequence);
     set_int(head, COUNTER_AT, message.counter);
     match &message.body {
-        Body::Increment { p, start } => {
+        Body::Increment { p, start, amount } => {
             set_int(head, KIND_AT, MESSAGE_INCREMENT);
             set_hyper(rest, P_AT, *p);
             set_int(rest, START_AT, u32::from(*start));
+            if message.version.has_amount {
+                set_int(rest, AMOUNT_AT, *amount);
+            }
         }
         Body::Clear(entries) => {
             set_int(head, KIND_AT, MESSAGE_CLEAR);

@@ -1,5 +1,7 @@
 //! A small generator of test numbers (splitmix64), the same on every machine for one seed.
 
+use crate::limits::MOST_AMOUNT;
+
 #[derive(Clone, Debug)]
 pub struct Random {
     state: u64,
@@ -45,6 +47,12 @@ impl Random {
 
     pub fn pick<T: Copy>(&mut self, list: &[T]) -> T {
         list[self.below(list.len() as u64) as usize]
+    }
+
+    /// An amount of a count: often 1, often small, sometimes any.
+    pub fn amount(&mut self) -> u32 {
+        let most = self.pick(&[1, 1, 1, 9, 9, MOST_AMOUNT]);
+        self.between(1, most) as u32
     }
 
     pub fn bytes(&mut self, len: usize) -> Vec<u8> {

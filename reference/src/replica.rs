@@ -5,7 +5,7 @@
 use core::ops::Range;
 
 use crate::limits::*;
-use crate::message::{self, Body, Entries, Entry, Message};
+use crate::message::{self, Body, Entries, Entry, Message, CURRENT};
 
 /// Where r stands among the words,
 pub const CARDS_AT: usize = 0;
@@ -122,6 +122,20 @@ impl Shape {
     }
 }
 
+/// A replica's shape, and a counter that it has; refused with 1, 3.
+#[derive(Clone, Copy)]
+struct Place {
+    shape: Shape,
+    counter: usize,
+}
+
+impl Place {
+    fn of(words: &[u64], counter: u64) -> Result<Place, u64> {
+        let shape = Shape::of(words)?;
+        Ok(Place { shape, counter: shape.counter(counter)? })
+    }
+}
+
 /// One counter of a replica: C and N of every card, and the counter's row.
 struct Row<'a> {
     own: usize,
@@ -157,7 +171,7 @@ impl<'a> Row<'a> {
 
     /// Of C and N, which all rows share.
     fn counted(&self) -> bool {
-        self.increments.iter().zip(self.messages).all(|(c, n)| c <= n && *n <= MAX)
+        self.increments.iter().chain(self.messages).all(|number| *number <= MAX)
     }
 
     /// Of the row's own entries.
@@ -194,8 +208,7 @@ pub fn open(words: &mut [u64], cards: u64, counters: u64, own: u64) -> Result<()
 
 /// Value, holders and how many; refused with 1, 3, 2.
 pub fn read(words: &[u64], counter: u64) -> Result<Reading, u64> {
-    let shape = Shape::of(words)?;
-    let counter = shape.counter(counter)?;
+    let Place { shape, counter } = Place::of(words, counter)?;
     let row = Row::of(words, shape, counter).check()?;
     let mut reading = Reading::default();
     for (card, cell) in row.cells().enumerate() {
@@ -208,27 +221,29 @@ pub fn read(words: &[u64], counter: u64) -> Result<Reading, u64> {
     Ok(reading)
 }
 
-/// Counts one on `counter`: the message to `out`, and applied; refused with 1, 3, 2, 4, 5.
-pub fn count(words: &mut [u64], counter: u64, out: &mut [u8]) -> Result<Sent, u64> {
-    send(words, counter, out, |row| {
+/// Counts `amount` on `counter`: the message to `out`, and applied; refused with 1, 3, 16, 2, 4, 5.
+pub fn count(words: &mut [u64], counter: u64, amount: u64, out: &mut [u8]) -> Result<Sent, u64> {
+    let place = Place::of(words, counter)?;
+    if !is_amount(amount) {
+        return Err(BAD_AMOUNT);
+    }
+    send(words, place, amount, out, |row| {
         let own = row.cell(row.own);
-        if own.is_absent() {
-            Body::Increment { p: row.increments[row.own] + 1, start: true }
-        } else {
-            Body::Increment { p: own.p + 1, start: false }
-        }
+        let start = own.is_absent();
+        let before = if start { row.increments[row.own] } else { own.p };
+        Body::Increment { p: before + amount, start, amount: amount as u32 }
     })
 }
 
 /// Clears `counter`: every present entry to `out`, and applied; refused with 1, 3, 2, 4, 5.
 pub fn clear(words: &mut [u64], counter: u64, out: &mut [u8]) -> Result<Sent, u64> {
-    send(words, counter, out, |row| clearing(row).1)
+    send(words, Place::of(words, counter)?, 0, out, |row| clearing(row).1)
 }
 
 /// Clears `counter`, and gives the value that a read gives just before; refused as clear.
 pub fn read_and_clear(words: &mut [u64], counter: u64, out: &mut [u8]) -> Result<Cleared, u64> {
     let mut value = 0;
-    let sent = send(words, counter, out, |row| {
+    let sent = send(words, Place::of(words, counter)?, 0, out, |row| {
         let (read, clear) = clearing(row);
         value = read;
         clear
@@ -249,20 +264,22 @@ fn clearing(row: &Row) -> (u64, Body) {
     (value, Body::Clear(entries))
 }
 
+/// Makes a message that counts `units`; refused with 2, 4, 5.
 fn send(
     words: &mut [u64],
-    counter: u64,
+    place: Place,
+    units: u64,
     out: &mut [u8],
     body: impl FnOnce(&Row) -> Body,
 ) -> Result<Sent, u64> {
-    let shape = Shape::of(words)?;
-    let counter = shape.counter(counter)?;
+    let Place { shape, counter } = place;
     let row = Row::of(words, shape, counter).check()?;
     let made = row.messages[shape.own];
-    if made == MAX {
+    if made == MAX || row.increments[shape.own] + units > MAX {
         return Err(EXHAUSTED);
     }
     let message = Message {
+        version: CURRENT,
         sender: shape.own as u32,
         sequence: made + 1,
         counter: counter as u32,
@@ -317,13 +334,11 @@ fn names_stranger(message: &Message, cards: usize) -> bool {
 fn plausible(message: &Message, row: &Row) -> bool {
     let sender = message.sender as usize;
     match &message.body {
-        Body::Increment { p, start } => {
-            let next = row.increments[sender] + 1;
-            if *start {
-                *p == next
-            } else {
-                1 < *p && *p <= next
-            }
+        Body::Increment { p, start, amount } => {
+            let amount = u64::from(*amount);
+            let next = row.increments[sender] + amount;
+            let follows = if *start { *p == next } else { amount < *p && *p <= next };
+            follows && next <= MAX
         }
         Body::Clear(entries) => entries.as_slice().iter().all(|e| {
             let card = e.card as usize;
@@ -340,9 +355,10 @@ fn apply(words: &mut [u64], shape: Shape, message: &Message) {
     let (messages, rows) = rest.split_at_mut(r);
     let cells = &mut rows[ENTRY_WORDS * r * message.counter as usize..][..ENTRY_WORDS * r];
     match &message.body {
-        Body::Increment { p, start } => {
-            let c = increments[sender] + 1;
-            update(cells, sender, |cell| incremented(cell, *p, *start, c));
+        Body::Increment { p, start, amount } => {
+            let amount = u64::from(*amount);
+            let c = increments[sender] + amount;
+            update(cells, sender, |cell| incremented(cell, amount, *p, *start, c));
             increments[sender] = c;
         }
         Body::Clear(entries) => {
@@ -360,9 +376,9 @@ fn update(cells: &mut [u64], card: usize, next: impl FnOnce(Cell) -> Cell) {
     place.copy_from_slice(&next(Cell::of(place)).words());
 }
 
-/// "Increment from j": Algorithm 1, lines 17 to 25.
-fn incremented(cell: Cell, p: u64, start: bool, c: u64) -> Cell {
-    let n = if start || cell.is_absent() { p - 1 } else { 0 };
+/// "Increment from j by w": for an amount of 1, Algorithm 1, lines 17 to 25.
+fn incremented(cell: Cell, amount: u64, p: u64, start: bool, c: u64) -> Cell {
+    let n = if start || cell.is_absent() { p - amount } else { 0 };
     let next = cell.max(Cell { p, n, c });
     if next.p == next.n && next.c == c {
         Cell::ABSENT

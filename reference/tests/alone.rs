@@ -23,7 +23,7 @@ fn counters_share_a_log_and_what_was_accepted_stands_alone() {
     let log_bytes = 2 * INCREMENT_BYTES;
     let list = |steps: &[Step]| List { cards: 2, counters: 2, log_bytes, steps: steps.to_vec() };
     let both = list(&[
-        Step::count(0, 0),
+        Step::count_by(0, 0, 3),
         Step::count(0, 1),
         Step::count(0, 0),
         Step::deliver(1, 0),
@@ -37,21 +37,22 @@ fn counters_share_a_log_and_what_was_accepted_stands_alone() {
     let numbers = [OK, OK, LOG_FULL, OK, OK, OK, NOTHING_WAITING, LOG_FULL];
     assert_eq!(after.answers.iter().map(|answer| answer[0]).collect::<Vec<_>>(), numbers);
     // What is declined answers no value, though counter 1 reads 1 there.
-    assert_eq!((after.answers[4], after.answers[7]), ([OK, 1], [LOG_FULL, 0]));
+    assert_eq!((after.answers[4], after.answers[7]), ([OK, 3], [LOG_FULL, 0]));
     assert_eq!(values(&both.reads(&after, 1)), [1, 1]);
 
     // So a list without counter 1 is answered otherwise, and read otherwise.
-    let count_twice = [Step::count(0, 0), Step::count(0, 0), Step::deliver(1, 0)];
+    let count_twice = [Step::count_by(0, 0, 3), Step::count(0, 0), Step::deliver(1, 0)];
     let without = list(&[&count_twice[..], &[Step::clear(1, 0)]].concat());
     let after_without = without.run(random);
     assert_eq!(after_without.answers, [[OK, 0]; 4]);
-    assert_eq!(values(&without.reads(&after_without, 0)), [2, 0]);
-    assert_eq!(values(&both.reads(&after, 0)), [1, 0]);
+    assert_eq!(values(&without.reads(&after_without, 0)), [4, 0]);
+    assert_eq!(values(&both.reads(&after, 0)), [3, 0]);
 
     // But the steps that were accepted need no other counter to be so.
     let (own, answers) = both.own(&after, 0);
-    assert_eq!(own.steps, [Step::count(0, 0), Step::deliver(1, 0), Step::read_and_clear(1, 0)]);
-    assert_eq!(answers, [[OK, 0], [OK, 0], [OK, 1]]);
+    let steps = [Step::count_by(0, 0, 3), Step::deliver(1, 0), Step::read_and_clear(1, 0)];
+    assert_eq!(own.steps, steps);
+    assert_eq!(answers, [[OK, 0], [OK, 0], [OK, 3]]);
     assert_eq!(both.own(&after, 1).0.steps, [Step::count(0, 1), Step::deliver(1, 0)]);
     both.check(random, &|| "two counters".into(), &mut Tally::default());
 }

@@ -41,7 +41,11 @@ fn random_messages_read_and_write_the_same() {
 
 #[test]
 fn every_field_of_a_message_at_every_edge() {
-    for tally in messages::every_field_at_every_edge() {
+    let [written, read] = messages::every_field_at_every_edge();
+    for name in messages::UNUSED_AMOUNTS {
+        written.require(name, messages::FIELD);
+    }
+    for tally in [written, read] {
         println!("{tally}");
         for (name, _) in messages::FIELDS {
             tally.require(name, messages::FIELD);
@@ -62,28 +66,35 @@ fn waiting_agrees_on_good_and_damaged_logs() {
 
 #[test]
 fn every_list_of_two_cards_and_one_counter_to_depth_7() {
-    let lists = runs::exhaustive(2, 1, 400, 7);
+    let lists = runs::exhaustive(2, 1, &[1], 400, 7);
     assert_eq!(lists, (0..=7).map(|depth| 8u64.pow(depth)).sum());
     println!("r 2, k 1: {lists} lists");
 }
 
 #[test]
+fn every_list_of_two_cards_and_two_amounts_to_depth_6() {
+    let lists = runs::exhaustive(2, 1, &[1, 2], 400, 6);
+    assert_eq!(lists, (0..=6).map(|depth| 10u64.pow(depth)).sum());
+    println!("r 2, k 1, by 1 and 2: {lists} lists");
+}
+
+#[test]
 fn every_list_of_two_cards_with_little_log_to_depth_6() {
-    let lists = runs::exhaustive(2, 1, 100, 6);
+    let lists = runs::exhaustive(2, 1, &[3], 100, 6);
     assert_eq!(lists, (0..=6).map(|depth| 8u64.pow(depth)).sum());
     println!("r 2, k 1, 100 log bytes: {lists} lists");
 }
 
 #[test]
 fn every_list_of_two_cards_and_two_counters_to_depth_5() {
-    let lists = runs::exhaustive(2, 2, 300, 5);
+    let lists = runs::exhaustive(2, 2, &[1], 300, 5);
     assert_eq!(lists, (0..=5).map(|depth| 14u64.pow(depth)).sum());
     println!("r 2, k 2: {lists} lists");
 }
 
 #[test]
 fn every_list_of_three_cards_to_depth_5() {
-    let lists = runs::exhaustive(3, 1, 300, 5);
+    let lists = runs::exhaustive(3, 1, &[2], 300, 5);
     assert_eq!(lists, (0..=5).map(|depth| 15u64.pow(depth)).sum());
     println!("r 3, k 1: {lists} lists");
 }

@@ -11,13 +11,14 @@ macro_rules! named {
 }
 
 const SIZES: &[(&str, u64)] = named! {
-    MOST_CARDS MOST_COUNTERS MAX INCREMENT_BYTES STEP_BYTES ANSWER_WORDS
-    MESSAGE_VERSION MESSAGE_INCREMENT MESSAGE_CLEAR
+    MOST_CARDS MOST_COUNTERS MOST_AMOUNT MAX
+    INCREMENT_BYTES PLAIN_INCREMENT_BYTES STEP_BYTES ANSWER_WORDS
+    MESSAGE_VERSION MESSAGE_VERSION_1 MESSAGE_INCREMENT MESSAGE_CLEAR
     STEP_COUNT STEP_CLEAR STEP_DELIVER STEP_READ_AND_CLEAR
 };
 const ANSWERS: &[(&str, u64)] = named! {
     OK BAD_REPLICA BAD_ROW BAD_COUNTER EXHAUSTED SHORT_OUTPUT UNREADABLE BAD_CARD REPEATED EARLY
-    IMPLAUSIBLE BAD_SIZES BAD_KIND NOTHING_WAITING LOG_FULL BAD_LOG
+    IMPLAUSIBLE BAD_SIZES BAD_KIND NOTHING_WAITING LOG_FULL BAD_LOG BAD_AMOUNT
 };
 /// What the header computes from these. Both sides try the library with it.
 const COMPUTED: [&str; 3] = ["REPLICA_WORDS", "CLEAR_BYTES", "LONGEST_MESSAGE"];
@@ -43,7 +44,7 @@ fn the_header_has_the_same_numbers() {
 
 #[test]
 fn every_answer_is_given_by_some_call() {
-    let calls = [calls::OPEN, calls::READ, calls::SEND, calls::TAKE].concat();
+    let calls = [calls::OPEN, calls::READ, calls::COUNTED, calls::CLEARED, calls::TAKE].concat();
     let others = [messages::READ, messages::WRITE, runs::RUN, runs::STEP, pending::CALL].concat();
     for (name, number) in ANSWERS {
         assert!(calls.contains(number) || others.contains(number), "{name}");
@@ -52,7 +53,7 @@ fn every_answer_is_given_by_some_call() {
 
 #[test]
 fn every_kind_of_step_is_tried() {
-    let steps = runs::alphabet(2, 1);
+    let steps = runs::alphabet(2, 1, &[1]);
     for kind in limits::STEP_KINDS {
         assert!(steps.iter().any(|step| step.kind == kind), "{kind}");
     }

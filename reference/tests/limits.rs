@@ -4,8 +4,8 @@
 use std::fmt::Debug;
 
 use yelansub_reference::chassis::{self, Answer, Buffers, Step};
-use yelansub_reference::differential::generate::Draft;
-use yelansub_reference::differential::{cleared, delivered, number, reading, taken};
+use yelansub_reference::differential::generate::{Draft, AMOUNTS, STEP_AMOUNTS};
+use yelansub_reference::differential::{cleared, delivered, messages, number, reading, taken};
 use yelansub_reference::differential::{Sending, CLEAR, COUNT, READ_AND_CLEAR, SENDING};
 use yelansub_reference::limits::*;
 use yelansub_reference::replica::{self, entry_at, increments_at, messages_at};
@@ -46,13 +46,23 @@ fn read(words: &[u64], counter: u64) -> library::Reading {
     answer
 }
 
-/// With an output of `room` bytes.
+/// With an output of `room` bytes; a count is by 1.
 fn send(call: &Sending, words: &mut Vec<u64>, counter: u64, room: usize) -> library::Cleared {
+    send_by(call, words, counter, 1, room)
+}
+
+fn send_by(
+    call: &Sending,
+    words: &mut Vec<u64>,
+    counter: u64,
+    amount: u64,
+    room: usize,
+) -> library::Cleared {
     let before = (words.clone(), vec![9; room]);
     let (mut ours, mut theirs) = (before.clone(), before.clone());
-    let answer = (call.theirs)(&mut theirs.0, counter, &mut theirs.1);
-    let due = cleared((call.ours)(&mut ours.0, counter, &mut ours.1));
-    agree(&(counter, room), [answer, due], answer.number, [&theirs, &ours], &before);
+    let answer = (call.theirs)(&mut theirs.0, counter, amount, &mut theirs.1);
+    let due = cleared((call.ours)(&mut ours.0, counter, amount, &mut ours.1));
+    agree(&(counter, amount, room), [answer, due], answer.number, [&theirs, &ours], &before);
     *words = theirs.0;
     answer
 }
@@ -130,10 +140,10 @@ impl Lent {
         &mut self.logs[card * self.log_bytes as usize..][..self.log_bytes as usize]
     }
 
-    /// Message number q of the card, an increment among increments, becomes this.
+    /// Message number q of the card, an increment among increments, becomes this; it may be shorter.
     fn rewrite(&mut self, card: usize, q: usize, draft: Draft) {
-        let at = (q - 1) * INCREMENT_BYTES;
-        self.log(card)[at..at + INCREMENT_BYTES].copy_from_slice(&draft.bytes());
+        let (at, bytes) = ((q - 1) * INCREMENT_BYTES, draft.bytes());
+        self.log(card)[at..at + bytes.len()].copy_from_slice(&bytes);
     }
 }
 
@@ -197,7 +207,7 @@ fn a_run_is_within_the_limits() {
 
 // ---- counters, rows and sequences
 
-/// Card 1 of three on two counters. Every card has made ten messages, five of them increments.
+/// Card 1 of three on two counters. Every card has made ten messages and counted five.
 fn replica_of_three() -> Vec<u64> {
     let mut words = vec![0; replica_words(3, 2)];
     assert_eq!(library::open(&mut words, 3, 2, 1), OK);
@@ -221,6 +231,7 @@ fn next_of_card_0() -> Draft {
         counter: 0,
         p: 4,
         start: 0,
+        amount: 1,
         entries: Vec::new(),
     }
 }
@@ -255,7 +266,7 @@ fn row(changes: &[(usize, u64)], well_formed: bool) {
     assert_eq!(read(&words, 0).number, due, "{changes:?}");
     for call in &SENDING {
         let number = send(call, &mut words.clone(), 0, LONGEST_MESSAGE).number;
-        // The own N may be MAX.
+        // The own N may be MAX, and the own C.
         assert!(number == due || (well_formed && number == EXHAUSTED), "{changes:?}: {number}");
     }
     let number = take(&mut words.clone(), &next_of_card_0().bytes());
@@ -275,10 +286,15 @@ fn well_formed_rows() {
         row(&[(messages, MAX)], true);
         row(&[(messages, MAX + 1)], false);
         row(&[(messages, u64::MAX)], false);
-        row(&[(increments, 10)], true);
-        row(&[(increments, 11)], false);
+        // C may be above N.
+        row(&[(messages, 0)], true);
+        row(&[(increments, 11)], true);
+        row(&[(increments, MAX)], true);
+        row(&[(increments, MAX + 1)], false);
+        row(&[(increments, u64::MAX)], false);
         row(&[(increments, MAX), (messages, MAX)], true);
-        row(&[(increments, MAX + 1), (messages, MAX + 1)], false);
+        row(&[(increments, MAX + 1), (messages, MAX)], false);
+        row(&[(increments, MAX), (messages, MAX + 1)], false);
         row(&[(n, 0)], true);
         row(&[(n, 3)], true);
         row(&[(n, 4)], false);
@@ -298,8 +314,8 @@ fn well_formed_rows() {
         row(&[(c, MAX)], !own);
         row(&[(p, MAX), (c, MAX)], !own);
         row(&[(c, MAX + 1)], false);
-        row(&[(p, MAX), (n, MAX), (c, MAX), (increments, MAX), (messages, MAX)], true);
-        row(&[(c, MAX + 1), (increments, MAX), (messages, MAX)], false);
+        row(&[(p, MAX), (n, MAX), (c, MAX), (increments, MAX)], true);
+        row(&[(c, MAX + 1), (increments, MAX)], false);
     }
 }
 
@@ -317,23 +333,127 @@ fn the_last_message_of_a_card() {
     }
 }
 
-/// Words and arguments with every fault; without the first of them, the next is answered.
+/// Every set of causes, as whether it has each of them, with the number of its first.
+fn causes<const MANY: usize>(numbers: [u64; MANY]) -> impl Iterator<Item = ([bool; MANY], u64)> {
+    (0..1 << MANY).map(move |set: usize| {
+        let has: [bool; MANY] = core::array::from_fn(|cause| set >> cause & 1 == 1);
+        let first = has.iter().position(|has| *has).map_or(OK, |cause| numbers[cause]);
+        (has, first)
+    })
+}
+
+/// Each cause alone and every order: the first of a set of causes is answered.
 #[test]
-fn refusals_in_their_order() {
-    for call in &SENDING {
+fn refusals_of_a_count_in_their_order() {
+    let order = [BAD_REPLICA, BAD_COUNTER, BAD_AMOUNT, BAD_ROW, EXHAUSTED, SHORT_OUTPUT];
+    let wrong = AMOUNTS.into_iter().filter(|amount| !is_amount(*amount));
+    for (has, due) in causes(order) {
+        for (amount, by_units) in wrong.clone().flat_map(|amount| [(amount, false), (amount, true)])
+        {
+            let mut words = replica_of_three();
+            let (head, p) = (OWN_AT, entry_at(3, 0, 0).start);
+            let last = if by_units { increments_at(1) } else { messages_at(3, 1) };
+            for (at, to, has) in [(head, 3, has[0]), (p, 5, has[3]), (last, MAX, has[4])] {
+                words[at] = if has { to } else { words[at] };
+            }
+            let counter = if has[1] { 2 } else { 0 };
+            let amount = if has[2] { amount } else { 1 };
+            let room = if has[5] { INCREMENT_BYTES - 1 } else { INCREMENT_BYTES };
+            let answer = send_by(&COUNT, &mut words, counter, amount, room);
+            assert_eq!(answer.number, due, "{has:?}, {amount}");
+        }
+    }
+}
+
+#[test]
+fn refusals_of_a_clear_in_their_order() {
+    let order = [BAD_REPLICA, BAD_COUNTER, BAD_ROW, EXHAUSTED, SHORT_OUTPUT];
+    for (has, due) in causes(order) {
+        for call in [CLEAR, READ_AND_CLEAR] {
+            let mut words = replica_of_three();
+            let (p, messages) = (entry_at(3, 0, 0).start, messages_at(3, 1));
+            for (at, to, has) in [(OWN_AT, 3, has[0]), (p, 5, has[2]), (messages, MAX, has[3])] {
+                words[at] = if has { to } else { words[at] };
+            }
+            let counter = if has[1] { 2 } else { 0 };
+            let room = if has[4] { clear_bytes(3) - 1 } else { clear_bytes(3) };
+            assert_eq!(send(&call, &mut words, counter, room).number, due, "{has:?}");
+        }
+    }
+}
+
+/// The sequence is a repeated one or an early one; a message of version 1 does not read.
+#[test]
+fn refusals_of_a_take_in_their_order() {
+    for (sequence, number) in [(10, REPEATED), (12, EARLY)] {
+        let order = [BAD_REPLICA, UNREADABLE, BAD_COUNTER, BAD_ROW, BAD_CARD, number, IMPLAUSIBLE];
+        for (has, due) in causes(order) {
+            let mut words = replica_of_three();
+            words[OWN_AT] = if has[0] { 3 } else { 1 };
+            words[entry_at(3, 0, 2).start] = if has[3] { 5 } else { 3 };
+            let draft = Draft {
+                version: if has[1] { MESSAGE_VERSION_1 } else { MESSAGE_VERSION },
+                counter: if has[2] { 2 } else { 0 },
+                sender: u32::from(has[4]),
+                sequence: if has[5] { sequence } else { 11 },
+                p: if has[6] { 9 } else { 4 },
+                ..next_of_card_0()
+            };
+            assert_eq!(take(&mut words, &draft.bytes()), due, "{has:?}");
+        }
+    }
+}
+
+// ---- amounts
+
+#[test]
+fn amounts_of_a_count() {
+    for amount in AMOUNTS {
+        let due = if (1..=65_535).contains(&amount) { OK } else { BAD_AMOUNT };
         let mut words = replica_of_three();
-        let p = entry_at(3, 0, 0).start;
-        (words[OWN_AT], words[p], words[messages_at(3, 1)]) = (3, 5, MAX);
-        assert_eq!(send(call, &mut words, 2, 0).number, BAD_REPLICA);
-        words[OWN_AT] = 1;
-        assert_eq!(send(call, &mut words, 2, 0).number, BAD_COUNTER);
-        assert_eq!(send(call, &mut words, 0, 0).number, BAD_ROW);
-        words[p] = 3;
-        assert_eq!(send(call, &mut words, 0, 0).number, EXHAUSTED);
-        words[messages_at(3, 1)] = 10;
-        assert_eq!(send(call, &mut words, 0, 0).number, SHORT_OUTPUT);
-        assert_eq!(words, replica_of_three());
-        assert_eq!(send(call, &mut words, 0, LONGEST_MESSAGE).number, OK);
+        let answer = send_by(&COUNT, &mut words, 0, amount, INCREMENT_BYTES);
+        assert_eq!(answer.number, due, "{amount}");
+        if due == OK {
+            assert_eq!(words[entry_at(3, 0, 1)], [3 + amount, 1, 5 + amount]);
+            assert_eq!((words[increments_at(1)], words[messages_at(3, 1)]), (5 + amount, 11));
+        }
+    }
+}
+
+/// Where the own entry is absent p goes on from C, where it is not from its p.
+#[test]
+fn the_last_units_of_a_card() {
+    for amount in [1, 2, 9, MOST_AMOUNT] {
+        for (increments, due) in [
+            (MAX - amount - 1, OK),
+            (MAX - amount, OK),
+            (MAX - amount + 1, EXHAUSTED),
+            (MAX - 1, if amount == 1 { OK } else { EXHAUSTED }),
+            (MAX, EXHAUSTED),
+        ] {
+            for entry in [[0, 0, 0], [3, 1, 4], [increments, 1, increments]] {
+                let mut words = replica_of_three();
+                words[increments_at(1)] = increments;
+                words[entry_at(3, 0, 1)].copy_from_slice(&entry);
+                let mut after = words.clone();
+                let answer = send_by(&COUNT, &mut after, 0, amount, INCREMENT_BYTES);
+                assert_eq!(answer.number, due, "{increments} {amount}");
+                if due == OK {
+                    let c = increments + amount;
+                    let entry = match entry {
+                        [0, ..] => [c, increments, c],
+                        [p, n, _] => [p + amount, n, c],
+                    };
+                    assert_eq!(after[entry_at(3, 0, 1)], entry);
+                    assert_eq!(after[increments_at(1)], c);
+                }
+                // A clear counts nothing.
+                for clear in [CLEAR, READ_AND_CLEAR] {
+                    let mut words = words.clone();
+                    assert_eq!(send(&clear, &mut words, 0, LONGEST_MESSAGE).number, OK);
+                }
+            }
+        }
     }
 }
 
@@ -367,17 +487,6 @@ fn the_largest_value_read_and_cleared() {
     let length = LONGEST_MESSAGE as u64;
     assert_eq!(answer, library::Cleared { number: OK, value, sequence: MAX, length });
     assert_eq!(read(&words, 0), library::Reading::default());
-}
-
-#[test]
-fn the_last_increment_of_a_card() {
-    let mut words = replica_of_three();
-    (words[increments_at(1)], words[messages_at(3, 1)]) = (MAX - 1, MAX - 1);
-    words[entry_at(3, 0, 1)].copy_from_slice(&[MAX - 1, 0, MAX - 1]);
-    assert_eq!(send(&COUNT, &mut words, 0, INCREMENT_BYTES).number, OK);
-    assert_eq!(words[entry_at(3, 0, 1)], [MAX, 0, MAX]);
-    assert_eq!(words[increments_at(1)], MAX);
-    assert_eq!(read(&words, 0).number, OK);
 }
 
 #[test]
@@ -429,8 +538,12 @@ fn fields_that_no_message_has() {
     assert_eq!(take(&mut replica_of_three(), &next().bytes()), OK);
     assert_eq!(take(&mut replica_of_three(), &clear(&[(0, 1, 1)]).bytes()), OK);
     let wrong = [
-        Draft { version: MESSAGE_VERSION - 1, ..next() },
+        Draft { version: 0, ..next() },
         Draft { version: MESSAGE_VERSION + 1, ..next() },
+        Draft { version: MESSAGE_VERSION + 1, ..clear(&[]) },
+        Draft { amount: 0, ..next() },
+        Draft { amount: MOST_AMOUNT as u32 + 1, ..next() },
+        Draft { amount: u32::MAX, ..next() },
         Draft { kind: 0, ..clear(&[]) },
         Draft { kind: MESSAGE_CLEAR + 1, ..clear(&[]) },
         Draft { counter: MOST_COUNTERS as u32, ..next() },
@@ -448,34 +561,116 @@ fn fields_that_no_message_has() {
     ];
     for draft in wrong {
         assert_eq!(take(&mut replica_of_three(), &draft.bytes()), UNREADABLE, "{draft:?}");
-        assert_eq!(message::read(&draft.bytes()), None);
+        assert_eq!(message::read_alone(&draft.bytes()), None);
         assert_eq!(library::read_message(&draft.bytes()).number, UNREADABLE, "{draft:?}");
+    }
+}
+
+/// They read alone, and are no message to a card. In version 2 they would be taken.
+#[test]
+fn messages_of_version_1() {
+    for right in [next_of_card_0(), next_clear_of_card_0(&[]), next_clear_of_card_0(&[(0, 1, 1)])] {
+        assert_eq!(take(&mut replica_of_three(), &right.bytes()), OK);
+        let mut bytes = Draft { version: MESSAGE_VERSION_1, ..right.clone() }.bytes();
+        assert_eq!(take(&mut replica_of_three(), &bytes), UNREADABLE);
+        let read = library::read_message(&bytes);
+        assert_eq!(read, messages::reading(message::read_alone(&bytes)));
+        assert_eq!((read.number, read.message.version, read.message.amount), (OK, 1, 0));
+        // Nor is one whose version alone is another: it has the other's length.
+        let own = bytes.clone();
+        bytes[3] = MESSAGE_VERSION as u8;
+        let same = right.kind == MESSAGE_CLEAR;
+        let due = if same { OK } else { UNREADABLE };
+        assert_eq!(take(&mut replica_of_three(), &bytes), due);
+        assert_eq!(library::read_message(&bytes).number, due);
+        bytes = right.bytes();
+        bytes[3] = MESSAGE_VERSION_1 as u8;
+        assert_eq!(library::read_message(&bytes).number, due);
+        assert_eq!(bytes == own, same);
+    }
+}
+
+/// A record has one form: an amount is 0 in version 1 and in a clear.
+#[test]
+fn amounts_of_a_record() {
+    let write = |draft: &Draft, amount: u32| {
+        let form = library::read_message(&draft.bytes());
+        assert_eq!(form.number, OK, "{draft:?}");
+        let mut out = [9; LONGEST_MESSAGE];
+        let form = library::Message { amount, ..form.message };
+        let written = library::write_message(form, &mut out);
+        assert!(written.number == OK || out == [9; LONGEST_MESSAGE]);
+        (written.number, written.length)
+    };
+    let [current, plain] = [MESSAGE_VERSION, MESSAGE_VERSION_1].map(|version| {
+        [next_of_card_0(), next_clear_of_card_0(&[])].map(|d| Draft { version, ..d })
+    });
+    for amount in STEP_AMOUNTS {
+        let right = if is_amount(amount.into()) { (OK, INCREMENT_BYTES) } else { (UNREADABLE, 0) };
+        assert_eq!(write(&current[0], amount), right, "{amount}");
+        let unused = |length: usize| if amount == 0 { (OK, length) } else { (UNREADABLE, 0) };
+        assert_eq!(write(&plain[0], amount), unused(PLAIN_INCREMENT_BYTES), "{amount}");
+        for clear in [&current[1], &plain[1]] {
+            assert_eq!(write(clear, amount), unused(clear_bytes(0)), "{amount}");
+        }
     }
 }
 
 #[test]
 fn increments_that_can_come_next() {
-    // C of the sender, then p and start.
-    let take_increment = |increments: u64, p: u64, start: u32| {
+    // C of the sender, then amount, p and start.
+    let take_increment = |increments: u64, amount: u64, p: u64, start: u32| {
         let mut words = replica_of_three();
-        (words[increments_at(0)], words[messages_at(3, 0)]) = (increments, increments);
-        let sequence = increments + 1;
-        take(&mut words, &Draft { sequence, p, start, ..next_of_card_0() }.bytes())
+        words[increments_at(0)] = increments;
+        take(&mut words, &Draft { amount: amount as u32, p, start, ..next_of_card_0() }.bytes())
     };
-    for increments in [5, MAX - 1] {
-        let next = increments + 1;
-        let past = if next == MAX { UNREADABLE } else { IMPLAUSIBLE };
-        assert_eq!(take_increment(increments, next - 1, 1), IMPLAUSIBLE);
-        assert_eq!(take_increment(increments, next, 1), OK);
-        assert_eq!(take_increment(increments, next + 1, 1), past);
-        assert_eq!(take_increment(increments, 1, 0), IMPLAUSIBLE);
-        assert_eq!(take_increment(increments, 2, 0), OK);
-        assert_eq!(take_increment(increments, next, 0), OK);
-        assert_eq!(take_increment(increments, next + 1, 0), past);
+    for amount in [1, 2, 9, MOST_AMOUNT] {
+        for increments in [1, 5, MAX - amount - 1, MAX - amount] {
+            let next = increments + amount;
+            let past = if next == MAX { UNREADABLE } else { IMPLAUSIBLE };
+            let take = |p, start| take_increment(increments, amount, p, start);
+            assert_eq!(take(next - 1, 1), IMPLAUSIBLE);
+            assert_eq!(take(next, 1), OK);
+            assert_eq!(take(next + 1, 1), past);
+            // Without start p is above the amount: less reads, and cannot come.
+            assert_eq!(take(1, 0), IMPLAUSIBLE);
+            assert_eq!(take(amount, 0), IMPLAUSIBLE);
+            assert_eq!(take(amount + 1, 0), OK);
+            assert_eq!(take(next, 0), OK);
+            assert_eq!(take(next + 1, 0), past);
+        }
+        assert_eq!(take_increment(0, amount, amount, 1), OK);
+        assert_eq!(take_increment(0, amount, amount, 0), IMPLAUSIBLE);
+        assert_eq!(take_increment(0, amount, amount + 1, 0), IMPLAUSIBLE);
+        assert_eq!(take_increment(5, amount, MAX, 1), IMPLAUSIBLE);
+        // C + w above MAX, which no p is.
+        for increments in [MAX - amount + 1, MAX] {
+            for p in [amount + 1, MAX - 1, MAX] {
+                assert_eq!(take_increment(increments, amount, p, 0), IMPLAUSIBLE);
+                assert_eq!(take_increment(increments, amount, p, 1), IMPLAUSIBLE);
+            }
+        }
     }
-    assert_eq!(take_increment(0, 1, 1), OK);
-    assert_eq!(take_increment(0, 1, 0), IMPLAUSIBLE);
-    assert_eq!(take_increment(5, MAX, 1), IMPLAUSIBLE);
+}
+
+/// Absent, or with start: n is p less the amount. Otherwise n stays.
+#[test]
+fn what_an_increment_leaves() {
+    let after = |entry: [u64; 3], p: u64, start: u32| {
+        let mut words = replica_of_three();
+        words[entry_at(3, 0, 0)].copy_from_slice(&entry);
+        let draft = Draft { amount: 4, p, start, ..next_of_card_0() };
+        assert_eq!(take(&mut words, &draft.bytes()), OK);
+        assert_eq!((words[increments_at(0)], words[messages_at(3, 0)]), (9, 11));
+        words[entry_at(3, 0, 0)].to_vec()
+    };
+    assert_eq!(after([0, 0, 0], 9, 1), [9, 5, 9]);
+    assert_eq!(after([0, 0, 0], 7, 0), [7, 3, 9]);
+    assert_eq!(after([3, 1, 4], 9, 1), [9, 5, 9]);
+    assert_eq!(after([3, 1, 4], 7, 0), [7, 1, 9]);
+    // A clear of all of it has come before; and one of more.
+    assert_eq!(after([9, 9, 9], 7, 0), [0, 0, 0]);
+    assert_eq!(after([10, 10, 10], 7, 0), [10, 10, 10]);
 }
 
 #[test]
@@ -524,7 +719,7 @@ fn entries_of_a_clear() {
             assert_eq!((answer.number, answer.value), (SHORT_OUTPUT, 0));
         }
         let mut bytes = vec![0; length];
-        let made = (call.theirs)(&mut words.clone(), counter, &mut bytes);
+        let made = (call.theirs)(&mut words.clone(), counter, 0, &mut bytes);
         let value = if call.kind == STEP_READ_AND_CLEAR { read.value } else { 0 };
         assert_eq!((made.number, made.value, made.length), (OK, value, length as u64));
         assert_eq!(send(&call, &mut words.clone(), counter, length + 1), made);
@@ -558,6 +753,15 @@ fn outputs_of_an_increment() {
 
 // ---- steps and logs
 
+/// Whether a step of the kind can have the amount.
+fn fits(kind: u32, amount: u32) -> bool {
+    if kind == STEP_COUNT {
+        (1..=65_535).contains(&amount)
+    } else {
+        amount == 0
+    }
+}
+
 #[test]
 fn numbers_of_a_step() {
     let both_words = |step: Step| {
@@ -573,7 +777,12 @@ fn numbers_of_a_step() {
     for kind in (0..9).chain([u32::MAX]) {
         let due = if STEP_KINDS.contains(&kind) { OK } else { BAD_KIND };
         // Card 1 and counter 0, or to card 1 from card 0.
-        assert_eq!(answer(Step { kind, first: 1, second: 0 }), due, "{kind}");
+        let step = Step { kind, amount: u32::from(kind == STEP_COUNT), ..Step::clear(1, 0) };
+        assert_eq!(answer(step), due, "{kind}");
+        for amount in STEP_AMOUNTS {
+            let due = if due == OK && !fits(kind, amount) { BAD_AMOUNT } else { due };
+            assert_eq!(answer(Step { amount, ..step }), due, "{kind}, {amount}");
+        }
     }
     assert_eq!(both_words(Step::read_and_clear(0, 0)), [OK, 1]);
     assert_eq!(both_words(Step::clear(0, 0)), [OK, 0]);
@@ -593,9 +802,43 @@ fn numbers_of_a_step() {
     assert_eq!(answer(Step::deliver(u32::MAX, u32::MAX)), BAD_CARD);
 }
 
+/// Every set of causes that a step can have, but for 4, which needs MAX messages or units.
+#[test]
+fn refusals_of_a_step_in_their_order() {
+    let wrong = |kind: u32| STEP_AMOUNTS.into_iter().filter(move |amount| !fits(kind, *amount));
+    for (has, due) in causes([BAD_KIND, BAD_CARD, BAD_COUNTER, BAD_AMOUNT, LOG_FULL]) {
+        for kind in [STEP_COUNT, STEP_CLEAR, STEP_READ_AND_CLEAR] {
+            for amount in wrong(kind) {
+                let step = Step {
+                    kind: if has[0] { 5 } else { kind },
+                    first: if has[1] { 2 } else { 1 },
+                    second: if has[2] { 2 } else { 1 },
+                    amount: if has[3] { amount } else { u32::from(kind == STEP_COUNT) },
+                };
+                let log_bytes = if has[4] { clear_bytes(0) - 1 } else { LONGEST_MESSAGE };
+                assert_eq!(run(2, 2, log_bytes, &[step]).1, [[due, 0]], "{step:?}");
+            }
+        }
+    }
+    for (has, due) in causes([BAD_KIND, BAD_CARD, BAD_AMOUNT, NOTHING_WAITING]) {
+        for (amount, sender) in wrong(STEP_DELIVER).flat_map(|amount| [(amount, 1), (amount, 2)]) {
+            let step = Step {
+                kind: if has[0] { 5 } else { STEP_DELIVER },
+                first: 1,
+                second: if has[1] { sender } else { 0 },
+                amount: if has[2] { amount } else { 0 },
+            };
+            let made = if has[3] { Step::clear(1, 0) } else { Step::clear(0, 0) };
+            let answers = run(2, 2, LONGEST_MESSAGE, &[made, step]).1;
+            assert_eq!(answers, [[OK, 0], [due, 0]], "{step:?}");
+        }
+    }
+}
+
 #[test]
 fn steps_are_whole() {
-    for (extra, due) in [(0, OK), (1, BAD_SIZES), (STEP_BYTES - 1, BAD_SIZES)] {
+    // Twelve bytes more are no step without an amount.
+    for (extra, due) in [(0, OK), (1, BAD_SIZES), (12, BAD_SIZES), (STEP_BYTES - 1, BAD_SIZES)] {
         let steps = [&Step::count(0, 0).to_bytes()[..], &vec![0; extra]].concat();
         let (mut words, mut logs) = (vec![9; replica_words(1, 1)], vec![9; INCREMENT_BYTES]);
         let mut answers = [9; ANSWER_WORDS];
@@ -681,15 +924,26 @@ fn messages_of_a_log() {
     }
     assert_eq!(waiting(&log[..log.len() - 1], 3), (0, 0));
     assert_eq!(waiting(&log[..log.len() - 1], 2), (INCREMENT_BYTES, LONGEST_MESSAGE));
+    // A message of version 1 does not read, and nothing behind it does.
+    for draft in [next_of_card_0(), next_clear_of_card_0(&full)] {
+        let plain = Draft { version: MESSAGE_VERSION_1, ..draft }.bytes();
+        let log = [&increment[..], &plain, &increment].concat();
+        assert_eq!(waiting(&log, 1), (0, INCREMENT_BYTES));
+        assert_eq!((waiting(&log, 2), waiting(&log, 3)), ((0, 0), (0, 0)));
+        assert_eq!(waiting(&plain, 1), (0, 0));
+    }
 }
 
 // ---- delivering what waits
 
+/// What the cards below count by: on counter 0, on counter 1, and with a third message.
+const LOTS: [u32; 3] = [3, 5, 1];
+
 /// Three cards and two counters, every card with two counts that no other has: twelve messages wait.
 /// The logs have room for a third, where nothing stands.
 fn two_of_each() -> Lent {
-    let steps: Vec<Step> =
-        (0..3).flat_map(|card| [Step::count(card, 0), Step::count(card, 1)]).collect();
+    let counts = |card| [0, 1].map(|counter| Step::count_by(card, counter, LOTS[counter as usize]));
+    let steps: Vec<Step> = (0..3).flat_map(counts).collect();
     let log_bytes = 3 * INCREMENT_BYTES;
     let mut lent = Lent {
         cards: 3,
@@ -708,7 +962,9 @@ fn two_of_each() -> Lent {
 /// Message number q of the card there: its first count is on counter 0, its second on counter 1.
 fn count_of(card: usize, q: u64) -> Draft {
     let (sender, counter) = (card as u32, q as u32 - 1);
-    Draft { sender, sequence: q, counter, p: q, start: 1, ..next_of_card_0() }
+    let p = LOTS[..q as usize].iter().sum::<u32>().into();
+    let amount = LOTS[q as usize - 1];
+    Draft { sender, sequence: q, counter, p, start: 1, amount, ..next_of_card_0() }
 }
 
 #[test]
@@ -726,7 +982,8 @@ fn deliveries_up_to_the_most() {
         assert_eq!(lent.deliver_pending(u64::MAX), (OK, 0));
         for counter in 0..2 {
             let read = |card: usize| library::read(lent.clone().replica(card), counter);
-            let due = library::Reading { number: OK, value: 3, holders: 7, holder_count: 3 };
+            let value = 3 * u64::from(LOTS[counter as usize]);
+            let due = library::Reading { number: OK, value, holders: 7, holder_count: 3 };
             assert_eq!([0, 1, 2].map(read), [due; 3]);
         }
     }
@@ -779,7 +1036,7 @@ fn one_card_has_no_link() {
     let log_bytes = logs.len() as u64;
     let mut lent = Lent { cards: 1, counters: 1, log_bytes, words, logs };
     assert_eq!(lent.deliver_pending(u64::MAX), (OK, 0));
-    assert_eq!(library::count(&mut lent.words, 0, &mut lent.logs).number, OK);
+    assert_eq!(library::count(&mut lent.words, 0, 9, &mut lent.logs).number, OK);
     assert_eq!(lent.deliver_pending(u64::MAX), (OK, 0));
     lent.logs[0] ^= 1;
     assert_eq!(lent.deliver_pending(u64::MAX), (BAD_LOG, 0));
@@ -806,17 +1063,18 @@ fn every_row_of_every_replica() {
     let lent = two_of_each();
     for (card, of) in (0..9).map(|place| (place / 3, place % 3)) {
         let set = |at: usize, word| lent.number_with(|lent| lent.replica(card)[at] = word);
-        assert_eq!(set(increments_at(of), 3), BAD_ROW, "C above N");
+        assert_eq!(set(increments_at(of), MAX), OK, "C above N");
+        assert_eq!(set(increments_at(of), MAX + 1), BAD_ROW);
         assert_eq!(set(messages_at(3, of), MAX + 1), BAD_ROW);
         for counter in 0..2 {
             let entry = entry_at(3, counter, of);
             // No entry that is there, absent or not, stays well-formed with one of these.
-            assert_eq!(set(entry.start, 3), BAD_ROW, "p above c");
-            assert_eq!(set(entry.start + 1, 3), BAD_ROW, "n above p");
+            assert_eq!(set(entry.start, 9), BAD_ROW, "p above c");
+            assert_eq!(set(entry.start + 1, 9), BAD_ROW, "n above p");
             assert_eq!(set(entry.start + 2, MAX + 1), BAD_ROW);
             let due = if card == of { BAD_ROW } else { OK };
             let number =
-                lent.number_with(|lent| lent.replica(card)[entry].copy_from_slice(&[3, 0, 3]));
+                lent.number_with(|lent| lent.replica(card)[entry].copy_from_slice(&[9, 0, 9]));
             assert_eq!(number, due, "c above C, of card {of} on card {card}");
         }
     }
@@ -833,7 +1091,12 @@ fn logs_that_begin_with_what_was_made() {
                 |draft: Draft| lent.number_with(|lent| lent.rewrite(card, q as usize, draft));
             let right = || count_of(card, q);
             assert_eq!(with(right()), OK);
-            assert_eq!(with(Draft { version: MESSAGE_VERSION + 1, ..right() }), BAD_LOG);
+            for version in [MESSAGE_VERSION_1, MESSAGE_VERSION + 1] {
+                assert_eq!(with(Draft { version, ..right() }), BAD_LOG);
+            }
+            for amount in [0, MOST_AMOUNT as u32 + 1] {
+                assert_eq!(with(Draft { amount, ..right() }), BAD_LOG);
+            }
             assert_eq!(with(Draft { p: 0, ..right() }), BAD_LOG);
             assert_eq!(with(Draft { counter: MOST_COUNTERS as u32, ..right() }), BAD_LOG);
             assert_eq!(with(Draft { sender: other as u32, ..right() }), BAD_LOG);
@@ -845,6 +1108,7 @@ fn logs_that_begin_with_what_was_made() {
             assert_eq!(with(Draft { counter: 2, ..right() }), OK);
             assert_eq!(with(Draft { counter: MOST_COUNTERS as u32 - 1, ..right() }), OK);
             assert_eq!(with(Draft { p: MAX, ..right() }), OK);
+            assert_eq!(with(Draft { amount: MOST_AMOUNT as u32, ..right() }), OK);
         }
         // Also what every card has had.
         let all_had = |lent: &mut Lent| assert_eq!(lent.deliver_pending(u64::MAX), (OK, 12));
@@ -923,7 +1187,8 @@ fn links_passed_over() {
     let stranger = [(1, 1, 1), (3, 1, 1)];
     let declined = [
         (Draft { counter: 2, ..count_of(0, 1) }, BAD_COUNTER),
-        (Draft { p: 2, ..count_of(0, 1) }, IMPLAUSIBLE),
+        (Draft { p: 4, ..count_of(0, 1) }, IMPLAUSIBLE),
+        (Draft { amount: 4, ..count_of(0, 1) }, IMPLAUSIBLE),
         (Draft { start: 0, ..count_of(0, 1) }, IMPLAUSIBLE),
         (Draft { sequence: 1, ..next_clear_of_card_0(&stranger) }, BAD_CARD),
         (Draft { sequence: 1, ..next_clear_of_card_0(&[(0, 1, 3)]) }, IMPLAUSIBLE),
@@ -944,5 +1209,21 @@ fn links_passed_over() {
         assert_eq!(lent.deliver_pending(3), (OK, 3));
         assert_eq!(lent.replica(1)[messages_at(3, 2)], 1);
         assert_eq!(lent.replica(2)[messages_at(3, 1)], 0);
+    }
+}
+
+/// Card 1 has had more of card 0 than leaves room for its counts: by 3, or by 3 and by 5.
+#[test]
+fn links_without_room_for_the_units() {
+    for (room, taken) in [(0, 0), (2, 0), (3, 1), (7, 1), (8, 2)] {
+        let mut lent = two_of_each();
+        lent.replica(1)[increments_at(0)] = MAX - room;
+        // Without start: p fits, and C + w is all that is asked.
+        for q in [1, 2] {
+            lent.rewrite(0, q, Draft { p: 9, start: 0, ..count_of(0, q as u64) });
+        }
+        lent.replica(2)[increments_at(0)] = 9;
+        assert_eq!(lent.deliver_pending(u64::MAX), (OK, 10 + taken), "{room}");
+        assert_eq!(lent.replica(1)[messages_at(3, 0)], taken);
     }
 }

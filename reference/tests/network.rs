@@ -24,7 +24,7 @@ fn opened() -> [Vec<u64>; 2] {
 
 fn counted(words: &mut [u64]) -> [u8; INCREMENT_BYTES] {
     let mut message = [0; INCREMENT_BYTES];
-    assert_eq!(count(words, 0, &mut message).number, OK);
+    assert_eq!(count(words, 0, 3, &mut message).number, OK);
     message
 }
 
@@ -35,7 +35,7 @@ fn a_forged_message_counts() {
     let [_, mut elsewhere] = opened();
     let forged = counted(&mut elsewhere);
     assert_eq!(take(&mut first, &forged).number, OK);
-    assert_eq!((read(&first, 0).value, read(&second, 0).value), (1, 0));
+    assert_eq!((read(&first, 0).value, read(&second, 0).value), (3, 0));
     let message = counted(&mut second);
     assert_eq!(take(&mut first, &message).number, REPEATED);
 }
@@ -51,5 +51,5 @@ fn a_card_opened_again_is_not_heard() {
     assert_eq!(open(&mut first, 2, 1, 0), OK);
     let message = counted(&mut first);
     assert_eq!(take(&mut second, &message).number, REPEATED);
-    assert_eq!((read(&first, 0).value, read(&second, 0).value), (1, 2));
+    assert_eq!((read(&first, 0).value, read(&second, 0).value), (3, 6));
 }

@@ -21,10 +21,10 @@ fn calls_on_any_words_and_logs_agree() {
 
 #[test]
 fn every_list_of_two_cards_to_depth_5_with_every_most() {
-    println!("r 2, k 1: {} calls", pending::every_most(2, 1, 400, 5));
+    println!("r 2, k 1: {} calls", pending::every_most(2, 1, 1, 400, 5));
 }
 
 #[test]
 fn every_list_of_three_cards_to_depth_4_with_every_most() {
-    println!("r 3, k 1: {} calls", pending::every_most(3, 1, 300, 4));
+    println!("r 3, k 1: {} calls", pending::every_most(3, 1, 2, 300, 4));
 }

@@ -18,7 +18,7 @@ fn quiet_is_equal_sets() {
     quiet::require_all(&tally, lists);
 }
 
-const COUNTED: [Step; 1] = [Step::count(0, 0)];
+const COUNTED: [Step; 1] = [Step::count_by(0, 0, 3)];
 /// Card 1 clears card 0's count, and the clear comes to card 2 first.
 const OVERTAKEN: [Step; 4] =
     [Step::count(0, 0), Step::deliver(1, 0), Step::clear(1, 0), Step::deliver(2, 1)];
@@ -54,7 +54,20 @@ fn a_count_under_way_that_is_not_cancelled_is_no_holder() {
     let (read, sets) = card_2(&COUNTED);
     assert_eq!((read, read.is_quiet(), sets), (reading(0, 0, 0), true, [true, true, false]));
     let (read, sets) = card_2(&[COUNTED[0], Step::deliver(2, 0)]);
-    assert_eq!((read, read.is_quiet(), sets), (reading(1, 1, 1), false, [false, false, false]));
+    assert_eq!((read, read.is_quiet(), sets), (reading(3, 1, 1), false, [false, false, false]));
+}
+
+/// Two of four units have been cancelled before they have come; two have not.
+#[test]
+fn lots_that_are_cancelled_in_part() {
+    let counts = [Step::count_by(0, 0, 2), Step::deliver(1, 0), Step::count_by(0, 0, 2)];
+    let list = [&counts[..], &[Step::clear(1, 0), Step::deliver(2, 1)]].concat();
+    let (read, sets) = card_2(&list);
+    assert_eq!((read, read.is_quiet(), sets), (reading(0, 1, 1), false, [false, false, true]));
+    let (read, sets) = card_2(&[&list[..], &[Step::deliver(2, 0)]].concat());
+    assert_eq!((read, read.is_quiet(), sets), (reading(0, 0, 0), true, [true, true, false]));
+    let (read, sets) = card_2(&[&list[..], &[Step::deliver(2, 0); 2]].concat());
+    assert_eq!((read, read.is_quiet(), sets), (reading(2, 1, 1), false, [false, false, false]));
 }
 
 /// One name in each set, and not the same.

@@ -13,6 +13,10 @@ const fn count(card: u32, counter: u32) -> Step {
     Step::count(card, counter)
 }
 
+const fn count_by(card: u32, counter: u32, amount: u32) -> Step {
+    Step::count_by(card, counter, amount)
+}
+
 const fn clear(card: u32, counter: u32) -> Step {
     Step::clear(card, counter)
 }
@@ -84,11 +88,12 @@ fn fresh(cards: usize, counters: usize, own: u64) -> Vec<u64> {
     words
 }
 
-/// The bytes of card 0's first count, but for their sequence.
-fn first_count(sequence: u64) -> Vec<u8> {
-    let (version, kind) = (MESSAGE_VERSION, MESSAGE_INCREMENT);
-    let (sender, counter, entries) = (0, 0, Vec::new());
-    Draft { version, kind, sender, sequence, counter, p: 1, start: 1, entries }.bytes()
+/// The bytes of card 0's first count, but for their sequence, in this version.
+fn first_count(version: u32, sequence: u64) -> Vec<u8> {
+    let (kind, sender, counter, entries) = (MESSAGE_INCREMENT, 0, 0, Vec::new());
+    let draft =
+        Draft { version, kind, sender, sequence, counter, p: 1, start: 1, amount: 1, entries };
+    draft.bytes()
 }
 
 const LISTED: [Step; 4] = [count(0, 0), deliver(1, 0), clear(1, 0), count(0, 0)];
@@ -190,10 +195,10 @@ fn an_output_byte_too_few() {
     let mut words = fresh(2, 1, 0);
     let before = words.clone();
     let mut out = [7; INCREMENT_BYTES];
-    let short = library::count(&mut words, 0, &mut out[1..]);
+    let short = library::count(&mut words, 0, 1, &mut out[1..]);
     assert_eq!(short, library::Sent { number: SHORT_OUTPUT, sequence: 0, length: 0 });
     assert_eq!((&words, out), (&before, [7; INCREMENT_BYTES]));
-    let sent = library::count(&mut words, 0, &mut out);
+    let sent = library::count(&mut words, 0, 1, &mut out);
     assert_eq!(sent, library::Sent { number: OK, sequence: 1, length: INCREMENT_BYTES as u64 });
 }
 
@@ -201,13 +206,40 @@ fn an_output_byte_too_few() {
 fn sequences_in_turn() {
     let mut words = fresh(2, 1, 1);
     let mut take = |sequence| {
-        let taken = library::take(&mut words, &first_count(sequence));
+        let taken = library::take(&mut words, &first_count(MESSAGE_VERSION, sequence));
         (taken.number, taken.sequence)
     };
     assert_eq!(take(0), (UNREADABLE, 0));
     assert_eq!(take(2), (EARLY, 0));
     assert_eq!(take(1), (OK, 1));
     assert_eq!(take(1), (REPEATED, 0));
+}
+
+#[test]
+fn lots_before_and_after_a_clear() {
+    let counts = [count_by(0, 0, 3), deliver(1, 0), clear(0, 0), count_by(0, 0, 5)];
+    let run = after(2, 1, &[&counts[..], &[deliver(1, 0); 2]].concat());
+    assert_eq!((run.entry(1, 0, 0), run.read(1, 0).0), ([8, 3, 8], 5));
+}
+
+#[test]
+fn amounts_that_a_step_cannot_have() {
+    let answer = |step: Step| {
+        let (mut words, mut logs) = (vec![9; 2 * replica_words(2, 1)], vec![9; 2 * LOG_BYTES]);
+        let mut answers = [9; 2 * ANSWER_WORDS];
+        let steps = [count(0, 0).to_bytes(), step.to_bytes()].concat();
+        let lent = Buffers { words: &mut words, logs: &mut logs, answers: &mut answers };
+        assert_eq!(library::run(2, 1, LOG_BYTES as u64, &steps, lent), OK);
+        assert_eq!(answers[..3], [OK, 0, answers[2]]);
+        answers[2]
+    };
+    assert_eq!(answer(count_by(0, 0, 0)), BAD_AMOUNT);
+    assert_eq!(answer(count_by(0, 0, 65_536)), BAD_AMOUNT);
+    for step in [clear(0, 0), read_and_clear(0, 0), deliver(1, 0)] {
+        assert_eq!(answer(step), OK);
+        assert_eq!(answer(Step { amount: 1, ..step }), BAD_AMOUNT);
+    }
+    assert_eq!(answer(Step { amount: 1, ..clear(0, 1) }), BAD_COUNTER);
 }
 
 /// The wrong turn "dropping an entry as soon as p = n", at a clear taken over a present entry.
@@ -241,37 +273,45 @@ fn an_overtaken_increment_leaves_the_entry_until_the_last_has_come() {
 /// by 3 meanwhile. The ideal outcome there is 3, on both once everything has come.
 #[test]
 fn embedded_counter_keeps_the_concurrent_increment() {
-    let mut list = [[count(0, 0); 2], [deliver(1, 0); 2]].concat();
-    list.push(clear(1, 0));
-    list.extend([count(0, 0); 3]);
-    assert_eq!(after(2, 1, &list).read(0, 0).0, 5);
-    assert_eq!(after(2, 1, &list).read(1, 0).0, 0);
-    list.push(deliver(0, 1));
-    assert_eq!(after(2, 1, &list).read(0, 0).0, 3);
-    list.extend([deliver(1, 0); 3]);
-    let run = after(2, 1, &list);
-    assert_eq!((run.read(0, 0).0, run.read(1, 0).0), (3, 3));
+    // One by one, and in lots.
+    for (first, second) in [
+        (vec![count(0, 0); 2], vec![count(0, 0); 3]),
+        (vec![count_by(0, 0, 2)], vec![count_by(0, 0, 3)]),
+    ] {
+        let come = |counts: &[Step]| vec![deliver(1, 0); counts.len()];
+        let mut list = [&first[..], &come(&first), &[clear(1, 0)], &second].concat();
+        assert_eq!(after(2, 1, &list).read(0, 0).0, 5);
+        assert_eq!(after(2, 1, &list).read(1, 0).0, 0);
+        list.push(deliver(0, 1));
+        assert_eq!(after(2, 1, &list).read(0, 0).0, 3);
+        list.extend(come(&second));
+        let run = after(2, 1, &list);
+        assert_eq!((run.read(0, 0).0, run.read(1, 0).0), (3, 3));
+    }
 }
 
 #[test]
 fn bytes_past_a_cards_own_messages_are_no_message() {
-    let foreign = first_count(1);
-    let mut logs = [&foreign[..], &foreign].concat();
-    let steps = deliver(1, 0).to_bytes();
-    let mut words = vec![0; 2 * replica_words(2, 1)];
-    let mut answers = [9; ANSWER_WORDS];
-    assert_eq!(library::waiting(&foreign, 1).length, foreign.len() as u64);
-    let lent = Buffers { words: &mut words, logs: &mut logs, answers: &mut answers };
-    assert_eq!(library::run(2, 1, foreign.len() as u64, &steps, lent), OK);
-    assert_eq!(answers, [NOTHING_WAITING, 0]);
-    assert_eq!(logs, [&foreign[..], &foreign].concat());
+    for (version, reads) in [(MESSAGE_VERSION, true), (MESSAGE_VERSION_1, false)] {
+        let foreign = first_count(version, 1);
+        let mut logs = [&foreign[..], &foreign].concat();
+        let steps = deliver(1, 0).to_bytes();
+        let mut words = vec![0; 2 * replica_words(2, 1)];
+        let mut answers = [9; ANSWER_WORDS];
+        let waits = library::waiting(&foreign, 1).length;
+        assert_eq!(waits, if reads { foreign.len() as u64 } else { 0 });
+        let lent = Buffers { words: &mut words, logs: &mut logs, answers: &mut answers };
+        assert_eq!(library::run(2, 1, foreign.len() as u64, &steps, lent), OK);
+        assert_eq!(answers, [NOTHING_WAITING, 0]);
+        assert_eq!(logs, [&foreign[..], &foreign].concat());
+    }
 }
 
 #[test]
 fn nothing_lent() {
     assert_eq!(library::open(&mut [], 1, 1, 0), BAD_REPLICA);
     assert_eq!(library::read(&[], 0).number, BAD_REPLICA);
-    assert_eq!(library::count(&mut [], 0, &mut []).number, BAD_REPLICA);
+    assert_eq!(library::count(&mut [], 0, 1, &mut []).number, BAD_REPLICA);
     assert_eq!(library::clear(&mut [], 0, &mut []).number, BAD_REPLICA);
     assert_eq!(library::read_and_clear(&mut [], 0, &mut []).number, BAD_REPLICA);
     assert_eq!(library::take(&mut [], &[]).number, BAD_REPLICA);
@@ -285,7 +325,7 @@ fn nothing_lent() {
     assert_eq!(run(1, &mut []), BAD_SIZES);
     assert_eq!(library::deliver_pending(1, 1, 0, 1, &mut [], &[]).number, BAD_SIZES);
     let mut words = fresh(2, 1, 0);
-    assert_eq!(library::count(&mut words, 0, &mut []).number, SHORT_OUTPUT);
+    assert_eq!(library::count(&mut words, 0, 1, &mut []).number, SHORT_OUTPUT);
     assert_eq!(library::clear(&mut words, 0, &mut []).number, SHORT_OUTPUT);
     assert_eq!(library::read_and_clear(&mut words, 0, &mut []).number, SHORT_OUTPUT);
     assert_eq!(library::take(&mut words, &[]).number, UNREADABLE);

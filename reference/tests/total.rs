@@ -45,6 +45,18 @@ fn four_drops_over_two_evenings() {
     assert!(total.comes_out());
 }
 
+/// The same in lots: by 3 and by 250, and card 1's by 40 and by 65,535.
+#[test]
+fn four_lots_over_two_evenings() {
+    let (evening, come) = (Step::read_and_clear(0, 0), Step::deliver(0, 1));
+    let by = |card: u32, amount: u32| Step::count_by(card, 0, amount);
+    let before = [by(0, 3), evening, by(1, 40), by(0, 250), by(1, 65_535)];
+    let total = total_of(&[&before[..], &[come, evening, come]].concat());
+    let (answered, received) = (3 + 250 + 40, 3 + 250 + 40 + 65_535);
+    assert_eq!(total, Total { answered, answers: 2, value: 65_535, received, own: 253 });
+    assert!(total.comes_out());
+}
+
 /// Why no other card may clear the counter, and no plain clear may.
 #[test]
 fn what_is_cleared_otherwise_is_missing() {

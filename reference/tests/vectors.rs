@@ -1,10 +1,10 @@
 //! The library and the reference against bytes made by rpcgen and libtirpc from
 //! `include/message.x` (`vectors/regenerate.sh` makes them again).
 
-use yelansub_reference::differential::messages;
+use yelansub_reference::differential::{messages, taken};
 use yelansub_reference::library;
 use yelansub_reference::limits::*;
-use yelansub_reference::message::{self, Body, Entries, Entry, Message};
+use yelansub_reference::message::{self, Body, Entries, Entry, Message, CURRENT, VERSIONS};
 use yelansub_reference::replica::{self, entry_at, increments_at, messages_at};
 
 const VECTORS: &str = include_str!("../vectors/messages.txt");
@@ -16,17 +16,26 @@ struct Vector {
 
 fn vectors() -> Vec<Vector> {
     let list: Vec<Vector> = VECTORS.lines().map(vector).collect();
-    assert!(list.len() > 150, "the file of vectors is short");
+    assert!(list.len() > 400, "the file of vectors is short");
     list
+}
+
+/// Those that a card can make and take.
+fn current() -> Vec<Vector> {
+    vectors().into_iter().filter(|vector| vector.message.version == CURRENT).collect()
 }
 
 fn vector(line: &str) -> Vector {
     let mut fields = line.split(' ').collect::<Vec<_>>();
     let bytes = unhex(fields.pop().expect("bytes last"));
     let kind = fields.remove(0);
-    let numbers: Vec<u64> = fields.iter().map(|f| f.parse().expect("a number")).collect();
+    let mut numbers: Vec<u64> = fields.iter().map(|f| f.parse().expect("a number")).collect();
+    let version = u32::try_from(numbers.remove(0)).expect("a version");
+    let version = VERSIONS.into_iter().find(|of| of.number == version).expect("a version");
     let body = match kind {
-        "increment" => Body::Increment { p: numbers[3], start: numbers[4] == 1 },
+        "increment" => {
+            Body::Increment { p: numbers[3], start: numbers[4] == 1, amount: numbers[5] as u32 }
+        }
         "clear" => {
             let mut entries = Entries::new();
             for e in numbers[4..].chunks_exact(3) {
@@ -38,6 +47,7 @@ fn vector(line: &str) -> Vector {
         other => panic!("{other}"),
     };
     let message = Message {
+        version,
         sender: numbers[0] as u32,
         sequence: numbers[1],
         counter: numbers[2] as u32,
@@ -55,7 +65,7 @@ struct Words(Vec<u64>);
 
 impl Words {
     /// C = N = MAX for every card but `sender`, which has made or sent one message less than
-    /// `message.sequence`.
+    /// `message.sequence`; an increment's p is what it has counted and the amount.
     fn before(message: &Message, own: usize) -> Words {
         let mut words = vec![0; replica_words(MOST_CARDS, MOST_COUNTERS)];
         replica::open(&mut words, MOST_CARDS as u64, MOST_COUNTERS as u64, own as u64).unwrap();
@@ -66,8 +76,8 @@ impl Words {
         let sender = message.sender as usize;
         words[messages_at(MOST_CARDS, sender)] = message.sequence - 1;
         words[increments_at(sender)] = match message.body {
-            Body::Increment { p, start: true } => p - 1,
-            _ => message.sequence - 1,
+            Body::Increment { p, amount, .. } => p - u64::from(amount),
+            Body::Clear(_) => message.sequence - 1,
         };
         Words(words)
     }
@@ -83,8 +93,9 @@ fn maker(message: &Message) -> Vec<u64> {
     let mut words = Words::before(message, message.sender as usize);
     match &message.body {
         Body::Increment { start: true, .. } => {}
-        Body::Increment { p, start: false } => {
-            words.set(message.counter, message.sender, [p - 1, 0, message.sequence - 1]);
+        Body::Increment { p, start: false, amount } => {
+            let before = p - u64::from(*amount);
+            words.set(message.counter, message.sender, [before, 0, before]);
         }
         Body::Clear(entries) => {
             for e in entries.as_slice() {
@@ -101,20 +112,38 @@ fn taker(message: &Message) -> Vec<u64> {
 }
 
 #[test]
-fn document_01_example_is_the_first_vector() {
-    let hex = "00000001 00000001 00000000 0000000000000001 00000000 0000000000000001 00000001";
-    assert_eq!(vectors()[0].bytes, unhex(&hex.replace(' ', "")));
+fn the_specifications_example_is_first_in_both_versions() {
+    let fields = "00000001 00000000 0000000000000001 00000000 0000000000000001 00000001";
+    for (at, hex) in [format!("00000002 {fields} 00000001"), format!("00000001 {fields}")]
+        .into_iter()
+        .enumerate()
+    {
+        assert_eq!(vectors()[at].bytes, unhex(&hex.replace(' ', "")));
+    }
 }
 
 #[test]
 fn vectors_cover_every_number_of_entries() {
     let list = vectors();
-    for entries in 0..=MOST_CARDS {
+    for (version, entries) in VERSIONS.iter().flat_map(|v| (0..=MOST_CARDS).map(move |e| (v, e))) {
         let has = |v: &Vector| match v.message.body {
             Body::Increment { .. } => false,
-            Body::Clear(of) => of.as_slice().len() == entries,
+            Body::Clear(of) => v.message.version == *version && of.as_slice().len() == entries,
         };
-        assert!(list.iter().any(has), "{entries} entries");
+        assert!(list.iter().any(has), "{entries} entries in {version:?}");
+    }
+}
+
+#[test]
+fn vectors_cover_the_amounts_at_the_edges() {
+    for edge in [1, MOST_AMOUNT as u32] {
+        for due in [false, true] {
+            let has = |v: &Vector| match v.message.body {
+                Body::Increment { start, amount, .. } => (start, amount) == (due, edge),
+                Body::Clear(_) => false,
+            };
+            assert!(current().iter().any(has), "{edge}, start {due}");
+        }
     }
 }
 
@@ -124,7 +153,7 @@ fn reference_writes_and_reads_the_vectors() {
         let mut out = [0; LONGEST_MESSAGE];
         assert_eq!(message::write(&message, &mut out), Ok(bytes.len()));
         assert_eq!(out[..bytes.len()], bytes);
-        assert_eq!(message::read(&bytes), Some(message));
+        assert_eq!(message::read_alone(&bytes), Some(message));
     }
 }
 
@@ -144,12 +173,14 @@ fn library_reads_and_writes_the_vectors() {
 
 #[test]
 fn library_makes_the_vectors() {
-    for Vector { message, bytes } in vectors() {
+    for Vector { message, bytes } in current() {
         let mut words = maker(&message);
         let mut out = [0xee; LONGEST_MESSAGE + 4];
         let counter = u64::from(message.counter);
         let sent = match message.body {
-            Body::Increment { .. } => library::count(&mut words, counter, &mut out),
+            Body::Increment { amount, .. } => {
+                library::count(&mut words, counter, amount.into(), &mut out)
+            }
             Body::Clear(_) => library::clear(&mut words, counter, &mut out),
         };
         let expected =
@@ -161,13 +192,13 @@ fn library_makes_the_vectors() {
 }
 
 #[test]
-fn library_takes_the_vectors() {
+fn library_takes_the_vectors_of_version_2() {
     for Vector { message, bytes } in vectors() {
         let mut words = taker(&message);
         let mut ours = words.clone();
-        let taken = library::take(&mut words, &bytes);
-        assert_eq!(taken, library::Taken { number: OK, sequence: message.sequence }, "{message:?}");
-        assert_eq!(replica::take(&mut ours, &bytes), Ok(message.sequence));
+        let due = if message.version == CURRENT { Ok(message.sequence) } else { Err(UNREADABLE) };
+        assert_eq!(library::take(&mut words, &bytes), taken(due), "{message:?}");
+        assert_eq!(replica::take(&mut ours, &bytes), due);
         assert_eq!(words, ours, "{message:?}");
     }
 }
@@ -184,7 +215,7 @@ fn every_flipped_bit_and_every_other_length_of_the_vectors_agrees() {
             let answer = if taken.number == OK { Ok(taken.sequence) } else { Err(taken.number) };
             assert_eq!(answer, expected, "{bytes:?}");
             assert_eq!(ours, theirs, "{bytes:?}");
-            let read = messages::reading(message::read(bytes));
+            let read = messages::reading(message::read_alone(bytes));
             assert_eq!(library::read_message(bytes), read, "{bytes:?}");
             unreadable += u32::from(taken.number == UNREADABLE);
             if taken.number == OK {

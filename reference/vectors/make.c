@@ -3,10 +3,11 @@
  * include/message.x and libtirpc write them. Built and run by regenerate.sh.
  *
  * One message a line:
- *   increment SENDER SEQUENCE COUNTER P START HEX
- *   clear SENDER SEQUENCE COUNTER E CARD P C ... HEX
- * Every message is in range, and plausible for some receiver: p of an increment
- * and c of the sender's own entry do not pass what the sequence allows.
+ *   increment VERSION SENDER SEQUENCE COUNTER P START AMOUNT HEX
+ *   clear VERSION SENDER SEQUENCE COUNTER E CARD P C ... HEX
+ * Every message is in range; in version 1 the amount is 0. Those of version 2 are
+ * plausible for some receiver: p of an increment is at least the amount, without
+ * start above it, and c of the sender's own entry does not pass the sequence.
  */
 #include <stdint.h>
 #include <stdio.h>
@@ -51,20 +52,53 @@ static void print_hex(yelansub_wire_message *message)
     xdr_destroy(&xdr);
 }
 
-static void increment(unsigned sender, uint64_t sequence, unsigned counter, uint64_t p, int start)
+/* The version of a message, and its body there. */
+static yelansub_body_1 *body_1(yelansub_wire_message *message)
 {
-    yelansub_wire_message message = {.message_version = YELANSUB_MESSAGE_VERSION};
-    message.body.kind = YELANSUB_INCREMENT;
-    yelansub_increment *body = &message.body.yelansub_body_u.increment;
-    body->header = (yelansub_header){sender, sequence, counter};
-    body->p = p;
-    body->start = start;
-    printf("increment %u %llu %u %llu %d", sender, (unsigned long long)sequence, counter,
+    message->message_version = YELANSUB_MESSAGE_VERSION_1;
+    return &message->yelansub_wire_message_u.body_1;
+}
+
+static yelansub_body *body_2(yelansub_wire_message *message)
+{
+    message->message_version = YELANSUB_MESSAGE_VERSION;
+    return &message->yelansub_wire_message_u.body;
+}
+
+static void increment_1(unsigned sender, uint64_t sequence, unsigned counter, uint64_t p, int start)
+{
+    yelansub_wire_message message;
+    yelansub_body_1 *body = body_1(&message);
+    body->kind = YELANSUB_INCREMENT;
+    body->yelansub_body_1_u.increment = (yelansub_increment_1){{sender, sequence, counter}, p, start};
+    printf("increment 1 %u %llu %u %llu %d 0", sender, (unsigned long long)sequence, counter,
            (unsigned long long)p, start);
     print_hex(&message);
 }
 
-/* Entries for the cards of the set, with numbers up to limit. */
+static void increment(unsigned sender, uint64_t sequence, unsigned counter, uint64_t p, int start,
+                      unsigned amount)
+{
+    yelansub_wire_message message;
+    yelansub_body *body = body_2(&message);
+    body->kind = YELANSUB_INCREMENT;
+    body->yelansub_body_u.increment =
+        (yelansub_increment){{sender, sequence, counter}, p, start, amount};
+    printf("increment 2 %u %llu %u %llu %d %u", sender, (unsigned long long)sequence, counter,
+           (unsigned long long)p, start, amount);
+    print_hex(&message);
+}
+
+/* An amount that an increment with this p can have. */
+static unsigned any_amount(uint64_t p, int start)
+{
+    uint64_t most = start ? p : p - 1;
+    if (most > YELANSUB_MOST_AMOUNT)
+        most = YELANSUB_MOST_AMOUNT;
+    return (unsigned)(next() % 4 == 0 ? most : between(1, most));
+}
+
+/* In both versions. Entries for the cards of the set, with numbers up to limit. */
 static void clear(unsigned sender, uint64_t sequence, unsigned counter, unsigned set, uint64_t limit)
 {
     yelansub_entry entries[YELANSUB_MOST_CARDS];
@@ -77,33 +111,47 @@ static void clear(unsigned sender, uint64_t sequence, unsigned counter, unsigned
         uint64_t p = next() % 4 == 0 ? c : between(1, c);
         entries[count++] = (yelansub_entry){card, p, c};
     }
-    yelansub_wire_message message = {.message_version = YELANSUB_MESSAGE_VERSION};
-    message.body.kind = YELANSUB_CLEAR;
-    yelansub_clearing *body = &message.body.yelansub_body_u.clearing;
-    body->header = (yelansub_header){sender, sequence, counter};
-    body->entries.entries_len = count;
-    body->entries.entries_val = entries;
-    printf("clear %u %llu %u %u", sender, (unsigned long long)sequence, counter, count);
-    for (unsigned i = 0; i < count; i++)
-        printf(" %u %llu %llu", entries[i].card, (unsigned long long)entries[i].p,
-               (unsigned long long)entries[i].c);
-    print_hex(&message);
+    yelansub_clearing clearing = {{sender, sequence, counter}, {count, entries}};
+    for (unsigned version = 1; version <= YELANSUB_MESSAGE_VERSION; version++) {
+        yelansub_wire_message message;
+        if (version == YELANSUB_MESSAGE_VERSION_1) {
+            body_1(&message)->kind = YELANSUB_CLEAR;
+            body_1(&message)->yelansub_body_1_u.clearing = clearing;
+        } else {
+            body_2(&message)->kind = YELANSUB_CLEAR;
+            body_2(&message)->yelansub_body_u.clearing = clearing;
+        }
+        printf("clear %u %u %llu %u %u", version, sender, (unsigned long long)sequence, counter, count);
+        for (unsigned i = 0; i < count; i++)
+            printf(" %u %llu %llu", entries[i].card, (unsigned long long)entries[i].p,
+                   (unsigned long long)entries[i].c);
+        print_hex(&message);
+    }
 }
 
 int main(void)
 {
-    increment(0, 1, 0, 1, 1); /* the specification's example */
-    increment(LAST_CARD, YELANSUB_MAX, LAST_COUNTER, YELANSUB_MAX, 1);
-    increment(LAST_CARD, YELANSUB_MAX, LAST_COUNTER, YELANSUB_MAX, 0);
-    increment(0, 2, 0, 2, 0);
+    increment(0, 1, 0, 1, 1, 1); /* the specification's example */
+    increment_1(0, 1, 0, 1, 1);
+    for (int start = 0; start < 2; start++) {
+        increment(LAST_CARD, YELANSUB_MAX, LAST_COUNTER, YELANSUB_MAX, start, YELANSUB_MOST_AMOUNT);
+        increment(LAST_CARD, YELANSUB_MAX, LAST_COUNTER, YELANSUB_MAX, start, 1);
+        increment_1(LAST_CARD, YELANSUB_MAX, LAST_COUNTER, YELANSUB_MAX, start);
+    }
+    increment(0, 2, 0, 2, 0, 1);
     for (unsigned sender = 0; sender <= LAST_CARD; sender++)
         for (int start = 0; start < 2; start++) {
-            uint64_t sequence = between(2, UINT64_C(1) << between(2, BITS - 1));
-            increment(sender, sequence, (unsigned)between(0, LAST_COUNTER), between(2, sequence), start);
+            uint64_t sequence = between(2, UINT64_C(1) << between(2, BITS - 1)), p = between(2, sequence);
+            unsigned counter = (unsigned)between(0, LAST_COUNTER);
+            increment(sender, sequence, counter, p, start, any_amount(p, start));
+            increment_1(sender, sequence, counter, p, start);
         }
-    for (unsigned bit = 1; bit < BITS; bit++)
-        increment(bit % YELANSUB_MOST_CARDS, UINT64_C(1) << bit, bit % YELANSUB_MOST_COUNTERS,
-                  (UINT64_C(1) << bit) - 1 + (bit == 1), bit % 2);
+    for (unsigned bit = 1; bit < BITS; bit++) {
+        unsigned sender = bit % YELANSUB_MOST_CARDS, counter = bit % YELANSUB_MOST_COUNTERS;
+        uint64_t sequence = UINT64_C(1) << bit, p = sequence - 1 + (bit == 1);
+        increment(sender, sequence, counter, p, bit % 2, any_amount(p, bit % 2));
+        increment_1(sender, sequence, counter, p, bit % 2);
+    }
 
     clear(0, 1, 0, 0, YELANSUB_MAX);
     clear(LAST_CARD, YELANSUB_MAX, LAST_COUNTER, 0, YELANSUB_MAX);

@@ -5,7 +5,7 @@ use mathlib.Core.List.{List}
 use native.Mathlib.Omega.{arith}
 use lib.ListN.{length, take, drop, length-drop}
 use lib.Seq.{take-all, length-take-le, drop-drop}
-use Rattle.wire.specs.Message.{front-length}
+use Rattle.wire.specs.Message.{version-2, front-length}
 use Rattle.chassis_model.specs.Log.{waiting-part, end-of, span-at, waiting-span}
 use Rattle.chassis_model.specs.LogLaws.{waiting-none, waiting-next, waiting-here, waiting-zero}
 
@@ -19,7 +19,7 @@ pub record Walk (q : ℕ) (log : List ℕ) (left at : ℕ) : Type 0 where
   pub behind : at + end-of (left - 1) (drop at log) ≡ end-of (q - 1) log
 
 -- where the messages before number q end, the first one passed
-end-next : (q : ℕ) (log : List ℕ) → 1 < q → front-length log + end-of (q - 1 - 1) (drop (front-length log) log) ≡ end-of (q - 1) log
+end-next : (q : ℕ) (log : List ℕ) → 1 < q → front-length version-2 log + end-of (q - 1 - 1) (drop (front-length version-2 log) log) ≡ end-of (q - 1) log
 unfolding end-of
 end-next q log more = let one : q - 1 ≡ suc (q - 1 - 1) = omega arith in sym (ap (λ (n : ℕ). end-of n log) one)
 
@@ -29,7 +29,7 @@ module _ (q : ℕ) (log : List ℕ) where
 
   module _ (left at : ℕ) (h : Walk q log left at) where
     -- the message at the front of the rest, n bytes long, is passed
-    pub walk-next : (n : ℕ) → 1 < left → n ≡ front-length (drop at log) → n ≤ length (drop at log) → (n ≡ 0 → ⊥) → Walk q log (left - 1) (at + n)
+    pub walk-next : (n : ℕ) → 1 < left → n ≡ front-length version-2 (drop at log) → n ≤ length (drop at log) → (n ≡ 0 → ⊥) → Walk q log (left - 1) (at + n)
     walk-next n more front room some =
         let rest = drop-drop n at log in
         record {
@@ -39,7 +39,7 @@ module _ (q : ℕ) (log : List ℕ) where
         }
 
     -- no message stands where one has to
-    pub walk-none : (n : ℕ) → 1 < left → n ≡ front-length (drop at log) → n ≡ 0 → span-at at 0 ≡ waiting-span q log
+    pub walk-none : (n : ℕ) → 1 < left → n ≡ front-length version-2 (drop at log) → n ≡ 0 → span-at at 0 ≡ waiting-span q log
     unfolding waiting-span
     walk-none n more front none = rw (← (h .waits), waiting-none left (drop at log) more (sym front ∙ none))
 
@@ -49,7 +49,7 @@ module _ (q : ℕ) (log : List ℕ) where
     walk-zero none = rw (← (h .waits), waiting-zero left (drop at log) none)
 
     -- the message at the front of the rest is asked for
-    pub walk-here : (n : ℕ) → left ≡ 1 → n ≡ front-length (drop at log) → n ≤ length (drop at log) → span-at at n ≡ waiting-span q log
+    pub walk-here : (n : ℕ) → left ≡ 1 → n ≡ front-length version-2 (drop at log) → n ≤ length (drop at log) → span-at at n ≡ waiting-span q log
     unfolding waiting-span end-of
     walk-here n one front room =
         let start : at ≡ end-of (q - 1) log = omega (arith, rw one at (h .behind)) in

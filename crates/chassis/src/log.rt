@@ -29,7 +29,7 @@ pub fn waiting_span(log: &[u8], q: u64) -> Span
     let mut at: usize = 0;
     let mut left = q;
     while 1 < left {
-        let length = decode::front_length(&log[at..]);
+        let length = decode::front_length(&log[at..], wire::VERSION_2);
         if length == 0 {
             return span(at, 0);
         }
@@ -39,7 +39,7 @@ pub fn waiting_span(log: &[u8], q: u64) -> Span
     if left == 0 {
         return span(at, 0);
     }
-    let length = decode::front_length(&log[at..]);
+    let length = decode::front_length(&log[at..], wire::VERSION_2);
     span(at, length)
 }
 

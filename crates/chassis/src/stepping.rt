@@ -11,20 +11,21 @@ use replica::words;
 use replica_model::Cleared;
 use wire::decode;
 ghost use mathlib.Core.Path.{_≡_};
-ghost use mathlib.Core.Bool.{cond};
+ghost use mathlib.Core.Bool.{true, cond};
 ghost use mathlib.Core.List.{List};
 ghost use Prim.Native.Nat.{ℕ, _+_, _*_, _≤_, _<_};
 ghost use lib.ListN.{length, take, drop};
 ghost use lib.Seq.{sets};
 ghost use lib.Dec.{eqb};
 ghost use Rattle.protocol.specs.Limits.{most-cards, short-output, log-full};
+ghost use Rattle.protocol.specs.Checks.{first-failing};
 ghost use Rattle.protocol.specs.RoundRobin.{IsLink};
-ghost use Rattle.wire.specs.Message.{clear-length, called-length};
+ghost use Rattle.wire.specs.Message.{version-2, clear-length, called-length};
 ghost use Rattle.replica_model.specs.Calls.{ClearedOutcome};
-ghost use Rattle.chassis_model.specs.Run.{action-of, call-of, N-at, answered, answer-words, answer-length};
+ghost use Rattle.chassis_model.specs.Run.{action-of, amount-fits, call-of, N-at, answered, answer-words, answer-length};
 ghost use Rattle.chassis_model.specs.Places.{link-place, links};
 ghost use Rattle.chassis.specs.PartOf.{PartOf};
-ghost use Rattle.chassis.specs.StepCodeLaws.{WordsFit, state-of, HandReady, HandedOver, StepReady, StepDone, appended, StepAnswered};
+ghost use Rattle.chassis.specs.StepCodeLaws.{WordsFit, state-of, HandReady, HandedOver, StepReady, StepDone, appended, StepAnswered, maker-own-checks, link-own-checks};
 
 const COUNT: u32 = 1;
 
@@ -50,7 +51,7 @@ fn action_of(s: Step) -> Action
 {
     let kind = s.kind;
     if kind == COUNT {
-        return Action::Make(Making::Count, s.first, s.second);
+        return Action::Make(Making::Count(s.amount), s.first, s.second);
     }
     if kind == CLEAR {
         return Action::Make(Making::Clear, s.first, s.second);
@@ -62,6 +63,13 @@ fn action_of(s: Step) -> Action
         return Action::Make(Making::ReadAndClear, s.first, s.second);
     }
     Action::Nothing
+}
+
+// Is it a step that counts, or one without an amount?
+fn does_amount_fit(s: Step) -> bool
+    ensures { λ a. ⌜ a ≡ amount-fits s ⌝ }
+{
+    (s.kind == COUNT) | (s.amount == 0)
 }
 
 // A step's answer that is a number and no value.
@@ -94,7 +102,10 @@ fn send(making: Making, replica: &mut [u64], counter: u64, out: &mut [u8]) -> Cl
     ensures { λ a. ⌜ _≡_ {A = ClearedOutcome} (record { answer = a; words = now (replica .exit); out = now (out .exit) }) (call-of making counter (now (replica .entry)) (now (out .entry))) ⌝ }
 {
     match making {
-        Making::Count => clearing::beside(0, counting::count(replica, counter, out)),
+        Making::Count(amount) => clearing::beside(
+            0,
+            counting::count(replica, counter, amount as u64, out),
+        ),
         Making::Clear => clearing::beside(0, clearing::clear(replica, counter, out)),
         Making::ReadAndClear => clearing::read_and_clear(replica, counter, out),
     }
@@ -128,8 +139,8 @@ fn make(
     logs: &mut [u8],
     places: &mut [u64; LINKS],
 ) -> StepAnswer
-    requires { ⌜ StepReady sizes (now words) (now logs) (now places) × (card < sizes .cards) ⌝ }
-    ensures { λ a. ⌜ StepDone sizes (Action.Make making card counter) (now (words .entry)) (now (logs .entry)) a (now (words .exit)) (now (logs .exit)) (now (places .exit)) ⌝ }
+    requires { ⌜ StepReady sizes (now words) (now logs) (now places) × (card < sizes .cards) × (counter < sizes .counters) ⌝ }
+    ensures { λ a. ⌜ StepDone sizes (Action.Make making card counter) true (now (words .entry)) (now (logs .entry)) a (now (words .exit)) (now (logs .exit)) (now (places .exit)) ⌝ }
 {
     let own = link(card, card);
     let at = places[own];
@@ -164,11 +175,11 @@ pub fn received(sizes: Sizes, words: &[u64], card: usize, sender: usize) -> u64
 
 // The message that stands in a log from `at` on, as that part of the log.
 fn next_message(log: &[u8], at: usize) -> &[u8]
-    requires { ⌜ (at ≤ length (now log)) × (clear-length 0 ≤ length (drop at (now log))) × (called-length (drop at (now log)) ≤ length (drop at (now log))) ⌝ }
-    ensures { λ a. ⌜ PartOf (log .entry) at (take (called-length (drop at (now (log .entry)))) (drop at (now (log .entry)))) a ⌝ }
+    requires { ⌜ (at ≤ length (now log)) × (clear-length 0 ≤ length (drop at (now log))) × (called-length version-2 (drop at (now log)) ≤ length (drop at (now log))) ⌝ }
+    ensures { λ a. ⌜ PartOf (log .entry) at (take (called-length version-2 (drop at (now (log .entry)))) (drop at (now (log .entry)))) a ⌝ }
 {
     let rest = &log[at..];
-    let length = decode::called_length_of(rest);
+    let length = decode::called_length_of(rest, wire::VERSION_2);
     &rest[..length]
 }
 
@@ -213,7 +224,7 @@ fn deliver(
     places: &mut [u64; LINKS],
 ) -> StepAnswer
     requires { ⌜ StepReady sizes (now words) (now logs) (now places) × IsLink (sizes .cards) receiver sender ⌝ }
-    ensures { λ a. ⌜ StepDone sizes (Action.Deliver receiver sender) (now (words .entry)) (now (logs .entry)) a (now (words .exit)) (now (logs .entry)) (now (places .exit)) ⌝ }
+    ensures { λ a. ⌜ StepDone sizes (Action.Deliver receiver sender) true (now (words .entry)) (now (logs .entry)) a (now (words .exit)) (now (logs .entry)) (now (places .exit)) ⌝ }
 {
     let made = received(sizes, words, sender, sender);
     let had = received(sizes, words, receiver, sender);
@@ -227,6 +238,35 @@ fn deliver(
     answered(handed.number)
 }
 
+// What a step that makes a message has against itself, 0 where nothing.
+fn maker_refusal(sizes: Sizes, card: usize, counter: usize, fits: bool) -> u64
+    ensures { λ a. ⌜ a ≡ first-failing (maker-own-checks sizes card counter fits) ⌝ }
+{
+    if sizes.cards <= card {
+        return protocol::BAD_CARD;
+    }
+    if sizes.counters <= counter {
+        return protocol::BAD_COUNTER;
+    }
+    if !fits {
+        return protocol::BAD_AMOUNT;
+    }
+    0
+}
+
+// Likewise of a delivery, before it is known whether one waits.
+fn link_refusal(sizes: Sizes, receiver: usize, sender: usize, fits: bool) -> u64
+    ensures { λ a. ⌜ a ≡ first-failing (link-own-checks sizes receiver sender fits) ⌝ }
+{
+    if !((receiver < sizes.cards) & (sender < sizes.cards) & (receiver != sender)) {
+        return protocol::BAD_CARD;
+    }
+    if !fits {
+        return protocol::BAD_AMOUNT;
+    }
+    0
+}
+
 // One step, whatever its numbers.
 fn step(
     sizes: Sizes,
@@ -236,25 +276,28 @@ fn step(
     places: &mut [u64; LINKS],
 ) -> StepAnswer
     requires { ⌜ StepReady sizes (now words) (now logs) (now places) ⌝ }
-    ensures { λ a. ⌜ StepDone sizes (action-of s) (now (words .entry)) (now (logs .entry)) a (now (words .exit)) (now (logs .exit)) (now (places .exit)) ⌝ }
+    ensures { λ a. ⌜ StepDone sizes (action-of s) (amount-fits s) (now (words .entry)) (now (logs .entry)) a (now (words .exit)) (now (logs .exit)) (now (places .exit)) ⌝ }
 {
-    let cards = sizes.cards;
+    let fits = does_amount_fit(s);
     match action_of(s) {
         Action::Make(making, card, counter) => {
             let card = card as usize;
-            if card < cards {
+            let counter = counter as usize;
+            let number = maker_refusal(sizes, card, counter, fits);
+            if number == 0 {
                 make(sizes, making, card, counter as u64, words, logs, places)
             } else {
-                answered(protocol::BAD_CARD)
+                answered(number)
             }
         }
         Action::Deliver(receiver, sender) => {
             let receiver = receiver as usize;
             let sender = sender as usize;
-            if (receiver < cards) & (sender < cards) & (receiver != sender) {
+            let number = link_refusal(sizes, receiver, sender, fits);
+            if number == 0 {
                 deliver(sizes, receiver, sender, words, logs, places)
             } else {
-                answered(protocol::BAD_CARD)
+                answered(number)
             }
         }
         Action::Nothing => answered(protocol::BAD_KIND),

@@ -15,10 +15,10 @@ use Rattle.protocol.specs.Entry.{incremented, cleared}
 use Rattle.protocol.specs.Chassis.{count-message, present-entries, clear-message, read-value, read-holders}
 use Rattle.protocol.specs.StoreLaws.{cleared-words, taken-words, shown}
 use Rattle.protocol.specs.Functions.{all-below, count-below}
-use Rattle.protocol.specs.Acceptance.{entry-well-formed, card-well-formed, all-entries, cards-known, increment-implausible, entry-plausible, plausible, tables-well-formed}
+use Rattle.protocol.specs.Acceptance.{entry-well-formed, card-well-formed, all-entries, cards-known, increment-plausible, entry-plausible, plausible, tables-well-formed}
 use Rattle.wire.specs.Number.{number-at, bytes-of}
 use Rattle.wire.specs.Message as form
-use Rattle.wire.specs.Message.{header-bytes, increment-bytes, entry-bytes, entries-bytes, clear-bytes, message-bytes, header-in-range, increment-in-range, clear-in-range, entry-in-range, entries-in-range, unused, in-range, increment-message, entries-at, called-length, message-at, reads}
+use Rattle.wire.specs.Message.{header-bytes, increment-bytes, entry-bytes, entries-bytes, clear-bytes, message-bytes, header-in-range, increment-in-range, amount-in-range, clear-in-range, entry-in-range, entries-in-range, unused, in-range, increment-message, entries-at, called-length, message-at, reads}
 use Rattle.replica_model.specs.Layout.{N-of, fresh-words}
 use Rattle.replica_model.specs.Calls as calls
 use Rattle.replica_model.specs.Calls.{sizes-in-range, right, row-well-formed, reading, read-on, count-on, clear-on, replica-fits, send-with, words-after, take-with}
@@ -48,7 +48,7 @@ first-of r k i calls = getD (cards-after r k calls .written i) 0 []
 -- Of three cards card 2 counts twice and card 0 once; card 1 takes card 2's first count and clears it.
 abbrev pub three : List Call
 three =
-    let counted = count 2 0 (replicate 36 9) ∷ count 2 0 (replicate 36 9) ∷ count 0 0 (replicate 36 9) ∷ [] in
+    let counted = count 2 0 1 (replicate 40 9) ∷ count 2 0 1 (replicate 40 9) ∷ count 0 0 1 (replicate 40 9) ∷ [] in
     counted ++ take 1 (first-of 3 1 2 counted) ∷ clear 1 0 (replicate 48 9) ∷ []
 
 -- Card 1, which has had card 2's count and its own clear, takes card 0's count. Card 0, which has had its own count, takes the clear and then the count that the
@@ -58,18 +58,18 @@ other-order = three ++ take 1 (first-of 3 1 0 three) ∷ take 0 (first-of 3 1 1 
 
 -- Card 0 counts, and card 1 clears that; card 0 counts once more before the clear comes. Then each takes what it lacks.
 abbrev pub crossing : List Call
-crossing = count 0 0 (replicate 36 9) ∷ take 1 first ∷ clear 1 0 (replicate 48 9) ∷ count 0 0 (replicate 36 9) ∷ []
+crossing = count 0 0 1 (replicate 40 9) ∷ take 1 first ∷ clear 1 0 (replicate 48 9) ∷ count 0 0 1 (replicate 40 9) ∷ []
 
 abbrev pub exchanged : List Call
 exchanged = crossing ++ take 0 (first-of 2 1 1 crossing) ∷ take 1 second ∷ []
 
 -- a count that nobody else has received
 abbrev pub under-way : List Call
-under-way = count 0 0 (replicate 36 9) ∷ []
+under-way = count 0 0 1 (replicate 40 9) ∷ []
 
 -- of three cards card 2 counts, and card 0 alone receives that
 abbrev pub from-a-third : List Call
-from-a-third = let counted = count 2 0 (replicate 36 9) ∷ [] in counted ++ take 0 (first-of 3 1 2 counted) ∷ []
+from-a-third = let counted = count 2 0 1 (replicate 40 9) ∷ [] in counted ++ take 0 (first-of 3 1 2 counted) ∷ []
 
 -- and card 1 clears: one message each, of different cards
 abbrev pub one-each : List Call
@@ -77,7 +77,7 @@ one-each = from-a-third ++ clear 1 0 (replicate 48 9) ∷ []
 
 -- card 1 accepts a first message of card 0 on counter 0, which card 0 never writes: its own first is on counter 1
 abbrev pub forged : List Call
-forged = take 1 first ∷ count 0 1 (replicate 36 9) ∷ []
+forged = take 1 first ∷ count 0 1 1 (replicate 40 9) ∷ []
 
 pub examples-hold :
     -- the same messages in another order, while both lack one of card 2: both read card 0's count and nothing else
@@ -101,7 +101,7 @@ pub examples-hold :
     -- nor two that have received as many messages as were written, if one was forged
     × (GenuineHistory 2 2 forged → ⊥) × (has-all 2 2 forged 0 ≡ true) × (has-all 2 2 forged 1 ≡ true)
     × (read-on (cards-after 2 2 forged .words 0) 0 ≡ reading-of 0 0 0) × (read-on (cards-after 2 2 forged .words 1) 0 ≡ reading-of 1 1 1)
-unfolding put sum bits incremented cleared count-message present-entries clear-message read-value read-holders cleared-words taken-words shown number-at bytes-of header-bytes increment-bytes entry-bytes entries-bytes clear-bytes message-bytes header-in-range increment-in-range clear-in-range entry-in-range entries-in-range unused in-range increment-message entries-at called-length message-at reads form.clear-message fresh-words sizes-in-range right replica-fits all-below count-below entry-well-formed card-well-formed row-well-formed tables-well-formed reading read-on send-with words-after count-on clear-on content all-entries cards-known increment-implausible entry-plausible plausible take-with call-of wrote sent called number-of after numbers
+unfolding put sum bits incremented cleared count-message present-entries clear-message read-value read-holders cleared-words taken-words shown number-at bytes-of header-bytes increment-bytes entry-bytes entries-bytes clear-bytes message-bytes header-in-range increment-in-range amount-in-range clear-in-range entry-in-range entries-in-range unused in-range increment-message entries-at called-length message-at reads form.clear-message fresh-words sizes-in-range right replica-fits all-below count-below entry-well-formed card-well-formed row-well-formed tables-well-formed reading read-on send-with words-after count-on clear-on content all-entries cards-known increment-plausible entry-plausible plausible take-with call-of wrote sent called number-of after numbers
 examples-hold = (
   (tt, (tt, (tt, (λ _. inl refl, (tt, (λ _. inl refl, (λ _. inl refl, (λ _. inl refl, tt)))))))),
   refl,

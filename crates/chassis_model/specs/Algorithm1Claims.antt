@@ -1,4 +1,4 @@
--- CLAIMS. Algorithm 1 in every run (request 2026-05: "Algorithm 1 is compared as w increments in a row with nothing between them, in every run"), and in every
+-- CLAIMS. Algorithm 1 in every run ("Algorithm 1 is compared as w increments in a row with nothing between them, in every run"), and in every
 -- driver's history. `algorithm-1-of r steps numbers` is the paper's algorithm fed the steps and which of them were answered with 0, a count by w as w increments
 -- in a row and its delivery as their w effectors in a row (`protocol`'s `InARow`).
 use Prim.Native.Nat.{ℕ, _<_}

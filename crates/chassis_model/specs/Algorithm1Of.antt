@@ -1,4 +1,4 @@
--- DEFINITIONS. Algorithm 1 beside a list of steps (request 2026-05): fed the steps and which of them were accepted, and nothing else, as the ledger is.
+-- DEFINITIONS. Algorithm 1 beside a list of steps: fed the steps and which of them were accepted, and nothing else, as the ledger is.
 use Prim.Native.Nat.{ℕ}
 use mathlib.Core.List.{List}
 use Rattle.protocol.specs.Ledger.{Step}

@@ -5,7 +5,7 @@ use mathlib.Core.Bool.{Bool, false, cond, _&&_}
 use mathlib.Core.List.{List, [], _∷_, _++_}
 use lib.ListN.{getD}
 use lib.Dec.{eqb}
-use Rattle.wire.specs.Message.{message-at}
+use Rattle.wire.specs.Message.{version-2, message-at}
 use Rattle.replica_model.specs.Layout.{N-of}
 use Rattle.chassis_model.specs.Log.{waiting-part}
 use Rattle.chassis_model.specs.Run.{Step, Action, Make, Deliver, Nothing, action-of, State, StepAnswer, log-of, N-at, step-on}
@@ -19,7 +19,7 @@ module _ (r k L : ℕ) where
   -- is the action of counter q? Its counter is the one on which a message is made, and for a delivery the one of the message that it hands over.
   unfoldable pub of-counter : ℕ → Action → State → Bool
   of-counter q (Make m i c) st = eqb c q
-  of-counter q (Deliver i s) st = eqb (message-at (waiting-part (suc (N-at r k L st i s)) (log-of r k L st s)) .counter) q
+  of-counter q (Deliver i s) st = eqb (message-at version-2 (waiting-part (suc (N-at r k L st i s)) (log-of r k L st s)) .counter) q
   of-counter q Nothing st = false
 
   -- of each of q's own steps of a list, run from st: what f gives for it and its answer
@@ -41,7 +41,7 @@ module _ (r k L : ℕ) where
 -- the counter of a call: the one on which a message is made, and for a take the one of the message that the bytes are
 abbrev pub call-counter : Call → ℕ
 call-counter (make m i q out) = q
-call-counter (take i bytes) = message-at bytes .counter
+call-counter (take i bytes) = message-at version-2 bytes .counter
 
 -- of each of q's own calls of a list, made from st on: what f gives for it and the value that it answered
 unfoldable pub own-calls-from : {A : Type 0} → (Call → ℕ → A) → ℕ → List Call → Cards → List A
@@ -60,7 +60,7 @@ own-call-values r k q calls = own-calls-from (λ c v. v) q calls (opened r k)
 -- (Its bytes are others: p and c depend on all counters.)
 abbrev pub again : ℕ → Call → Cards → Call
 again r (make m i q out) st = make m i q out
-again r (take i bytes) st = take i (let s = message-at bytes .sender in getD (st .written s) (N-of r (st .words i) s) [])
+again r (take i bytes) st = take i (let s = message-at version-2 bytes .sender in getD (st .written s) (N-of r (st .words i) s) [])
 
 unfoldable pub replayed : ℕ → List Call → Cards → List Call
 replayed r [] st = []

@@ -2,17 +2,17 @@
 -- (`RunsBeside` of protocol). The second run's logs take no more room, so a step of q that the first run accepts is accepted in the second.
 use Prim.Native.Nat.{ℕ, suc, _+_, _≤_, _<_}
 use mathlib.Core.Path.{_≡_, refl, sym, ap, ap₂, _∙_}
-use mathlib.Core.Bool.{true, not}
+use mathlib.Core.Bool.{Bool, true, not}
 use mathlib.Core.List.{List, [], _∷_, map}
 use native.Mathlib.Omega.{arith}
 use lib.ListN.{length, length-append, length-map}
-use lib.Dec.{leb}
+use lib.Dec.{leb, eqb}
 use borrow.Author.Tests.{ltb-true, leb-true, le-leb, eq-eqb, ne-eqb, eqb-true, eqb-false, not-true}
 use Rattle.protocol.specs.Limits.{MAX, log-full}
-use Rattle.protocol.specs.Cases.{by-place, by-test}
+use Rattle.protocol.specs.Cases.{by-place, by-test, and-left, and-right}
 use Rattle.protocol.specs.Checks.{or-else, first-failing, AllPass}
 use Rattle.protocol.specs.ChecksLaws.{first-passes, all-accepts, all-first, all-second, all-append}
-use Rattle.protocol.specs.Chassis.{Message, increment, clearing}
+use Rattle.protocol.specs.Chassis.{Message, increment, clearing, units-of}
 use Rattle.protocol.specs.Ledger.{ledger-value}
 use Rattle.protocol.specs.Alone as queues
 use Rattle.protocol.specs.Alone.{Turns, no-turns, belongs-by-turns, outline, room}
@@ -20,20 +20,21 @@ use Rattle.protocol.specs.AloneLedgers.{same-holds, own-waits}
 use Rattle.protocol.specs.AloneRuns.{RunsBeside, fresh-beside, own-done, other-done, room-within}
 use Rattle.protocol.specs.AcceptanceLaws.{count-cong}
 use Rattle.wire.specs.Message.{clear-length, message-bytes}
-use Rattle.replica_model.specs.Layout.{replica-length, N-of}
+use Rattle.replica_model.specs.Layout.{replica-length, C-of, N-of}
 use Rattle.replica_model.specs.declared.Reading.{Reading}
 use Rattle.replica_model.specs.Calls.{left-checks, read-on}
 use Rattle.replica_model.specs.Format.{on-wire, size-of}
 use Rattle.replica_model.specs.FormatLaws.{on-wire-length}
 use Rattle.chassis_model.specs.LogLaws.{log-bytes, free-place}
 use Rattle.chassis_model.specs.Numbered.{numbered, wire-log, length-numbered}
-use Rattle.chassis_model.specs.Run.{Making, Action, Make, Deliver, Nothing, Step, action-of, State, replica-of, step-on, state-after, answers-of, numbers-in, values-in, sizes-right, run-on}
+use Rattle.chassis_model.specs.OwnUnits.{own-C-is}
+use Rattle.chassis_model.specs.Run.{Making, Action, Make, Deliver, Nothing, Step, action-of, amount-fits, counted, State, replica-of, step-on, state-after, answers-of, numbers-in, values-in, sizes-right, run-on}
 use Rattle.chassis_model.specs.Answers.{fresh-state, message-size, step-size, due-checks, value-asked}
 use Rattle.chassis_model.specs.Ledger.{ledger-action, ledger-step, accepted-of, ledger-reading}
 use Rattle.chassis_model.specs.Alone.{own-steps, own-values}
 use Rattle.chassis_model.specs.AloneQueues.{queued-steps, queued-from, own-from-is, own-steps-are}
-use Rattle.chassis_model.specs.InStep.{CardsAt, reached-N, own-N}
-use Rattle.chassis_model.specs.Matches.{RunAt, run-at, run-cards, log-in, N-in, free-in}
+use Rattle.chassis_model.specs.InStep.{CardsAt, reached-N, reached-C, own-N}
+use Rattle.chassis_model.specs.Matches.{RunAt, run-at, run-cards, log-in, N-in, C-in, free-in}
 use Rattle.chassis_model.specs.Makings.{making, making-belongs}
 use Rattle.chassis_model.specs.StepLaws.{accepted-enabled, accepted-leaves, declined-leaves}
 use Rattle.chassis_model.specs.AnswerLaws.{due-distinct, action-due, accepted-value}
@@ -43,11 +44,15 @@ use Rattle.chassis_model.specs.FreshRun.{fresh-matches}
 use Rattle.chassis_model.specs.Theorem.{right-sizes, answers-are, words-are}
 use Rattle.chassis_model.specs.ListParts.{part}
 
--- ---- room: "36 bytes", "28 + 20e bytes"
+-- ---- room: "40 in version 2", "28 + 20e bytes"
 
 size-of-outline : (m : Message) → size-of (outline m) ≡ size-of m
 size-of-outline (increment q w p start) = refl
 size-of-outline (clearing q ts) = ap clear-length (length-map ts _)
+
+units-of-outline : (m : Message) → units-of (outline m) ≡ units-of m
+units-of-outline (increment q w p start) = refl
+units-of-outline (clearing q ts) = refl
 
 bytes-of-log : (j n : ℕ) (ms : List Message) → length (log-bytes (numbered j n ms)) ≡ room size-of ms
 unfolding log-bytes numbered room
@@ -66,7 +71,7 @@ unfolding room
 room-ones [] = refl
 room-ones (m ∷ ms) = let e = room-ones ms in omega arith
 
--- ---- alone, a message is as long, and each card has made no more
+-- ---- alone, a message is as long, and each card has made no more and counted no more
 
 -- two rows of cards, whose chassis stand beside each other
 abbrev pub CardsBeside : {r k : ℕ} → ℕ → Turns → CardsAt r k → CardsAt r k → Type 0
@@ -95,19 +100,28 @@ same-asked {r} q turns now alone b (Make m i c) own =
 same-asked q turns now alone b (Deliver i s) own = refl
 same-asked q turns now alone b Nothing own = refl
 
--- a card that has messages left has some left there
+-- a card that may make one more message, by so much, may make it there
 pub more-left : {r k : ℕ} (q : ℕ) (turns : Turns) (now alone : CardsAt r k) → CardsBeside q turns now alone
-    → (i : ℕ) → i < r → AllPass (left-checks (N-of r (now .replicas i) i)) → AllPass (left-checks (N-of r (alone .replicas i) i))
-more-left {r} q turns now alone b i hi (some, _) =
-    let w = room-within (λ m. 1) (λ m. refl) q (now .chassis .log i) (alone .chassis .log i) (b .logs i) in
+    → (i w : ℕ) → i < r → AllPass (left-checks (N-of r (now .replicas i) i) (C-of (now .replicas i) i) w)
+    → AllPass (left-checks (N-of r (alone .replicas i) i) (C-of (alone .replicas i) i) w)
+more-left {r} q turns now alone b i w hi (some, _) =
+    let made = room-within (λ m. 1) (λ m. refl) q (now .chassis .log i) (alone .chassis .log i) (b .logs i) in
     let x = room-ones (now .chassis .log i) in
     let y = room-ones (alone .chassis .log i) in
     let N = reached-N now i i hi hi in
     let n = own-N now i hi in
     let n′ = own-N alone i hi in
-    let few = now .in-step .cards-show .few i hi in
-    let d = eqb-false (N-of r (now .replicas i) i) MAX (not-true _ some) in
-    (ap not (ne-eqb (N-of r (alone .replicas i) i) MAX (λ e. d (omega arith))), tt)
+    let few = now .in-step .cards-show .own .N≤ i in
+    let counts = room-within units-of units-of-outline q (now .chassis .log i) (alone .chassis .log i) (b .logs i) in
+    let C = reached-C now i hi in
+    let C′ = reached-C alone i hi in
+    let c = own-C-is r q (now .chassis) (now .ledgers q) (now .in-step .invariants q) i in
+    let c′ = own-C-is r q (alone .chassis) (alone .ledgers q) (alone .in-step .invariants q) i in
+    let left = not (eqb (N-of r (now .replicas i) i) MAX) in
+    let room = leb (C-of (now .replicas i) i + w) MAX in
+    let d = eqb-false (N-of r (now .replicas i) i) MAX (not-true _ (and-left left room some)) in
+    let fits = leb-true (C-of (now .replicas i) i + w) MAX (and-right left room some) in
+    (rw (ne-eqb (N-of r (alone .replicas i) i) MAX (λ e. d (omega arith))) (le-leb (C-of (alone .replicas i) i + w) MAX (omega arith)), tt)
 
 -- ---- a step of q that the first run accepts
 
@@ -119,48 +133,49 @@ module _ {r k L : ℕ} (q : ℕ) (turns : Turns) (now alone : RunAt r k L) (b : 
       (room-within size-of size-of-outline q (now .chassis .log i) (alone .chassis .log i) (b .logs i))
 
   -- so what is due is 0 there too
-  abbrev AcceptedToo : Action → Type 0
-  AcceptedToo a =
-      first-failing (due-checks r k L q a (now .state) (now .ledgers)) ≡ 0 → belongs-by-turns q (ledger-action a) turns ≡ true → first-failing (due-checks r k L q a (alone .state) (alone .ledgers)) ≡ 0
+  abbrev AcceptedToo : Action → Bool → Type 0
+  AcceptedToo a fits =
+      first-failing (due-checks r k L q a fits (now .state) (now .ledgers)) ≡ 0 → belongs-by-turns q (ledger-action a) turns ≡ true → first-failing (due-checks r k L q a fits (alone .state) (alone .ledgers)) ≡ 0
 
-  make-too : (m : Making) (i c : ℕ) → AcceptedToo (Make m i c)
-  make-too m i c e own =
+  make-too : (m : Making) (i c : ℕ) (fits : Bool) → AcceptedToo (Make m i c) fits
+  make-too m i c fits e own =
       let a = Make m i c in
-      let (there, (counter, rest)) = first-passes (due-checks r k L q a (now .state) (now .ledgers)) (due-distinct r k L q a (now .state) (now .ledgers)) e in
+      let (there, (counter, (amount, rest))) = first-passes (due-checks r k L q a fits (now .state) (now .ledgers)) (due-distinct r k L q a fits (now .state) (now .ledgers)) e in
       let hi = ltb-true i r there in
       let is : c ≡ q = eqb-true c q (sym (making-belongs m i q c turns) ∙ own) in
       let size : message-size r m i c (alone .ledgers c) ≡ message-size r m i c (now .ledgers c) = rw is (same-size q turns (run-cards now) (run-cards alone) b m i) in
       let used = less-used i hi in
+      let left = left-checks (N-in now i i) (C-in now i) (counted m) in
       let last = or-else (leb (free-in now i + message-size r m i c (now .ledgers c)) L) log-full ∷ [] in
-      let fits = leb-true _ L (all-second (left-checks (N-in now i i)) last rest .0) in
-      let more = more-left q turns (run-cards now) (run-cards alone) b i hi (all-first (left-checks (N-in now i i)) last rest) in
-      all-accepts (λ n. n) 0 (due-checks r k L q a (alone .state) (alone .ledgers))
-      (there, (counter, all-append (left-checks (N-in alone i i)) (or-else (leb (free-in alone i + message-size r m i c (alone .ledgers c)) L) log-full ∷ []) more (le-leb _ L (omega arith), tt)))
+      let room = leb-true _ L (all-second left last rest .0) in
+      let more = more-left q turns (run-cards now) (run-cards alone) b i (counted m) hi (all-first left last rest) in
+      all-accepts (λ n. n) 0 (due-checks r k L q a fits (alone .state) (alone .ledgers))
+      (there, (counter, (amount, all-append (left-checks (N-in alone i i) (C-in alone i) (counted m)) (or-else (leb (free-in alone i + message-size r m i c (alone .ledgers c)) L) log-full ∷ []) more (le-leb _ L (omega arith), tt))))
 
-  deliver-too : (i s : ℕ) → AcceptedToo (Deliver i s)
+  deliver-too : (i s : ℕ) (fits : Bool) → AcceptedToo (Deliver i s) fits
   unfolding ledger-action belongs-by-turns
-  deliver-too i s e own =
+  deliver-too i s fits e own =
       let a = Deliver i s in
-      let (linked, _) = first-passes (due-checks r k L q a (now .state) (now .ledgers)) (due-distinct r k L q a (now .state) (now .ledgers)) e in
-      all-accepts (λ n. n) 0 (due-checks r k L q a (alone .state) (alone .ledgers))
-      (linked, (rw (b .ledgers .queues s i) (own-waits q (turns s i) (now .ledgers q .queue s i) (b .ledgers .lined s i) own), tt))
+      let (linked, (amount, _)) = first-passes (due-checks r k L q a fits (now .state) (now .ledgers)) (due-distinct r k L q a fits (now .state) (now .ledgers)) e in
+      all-accepts (λ n. n) 0 (due-checks r k L q a fits (alone .state) (alone .ledgers))
+      (linked, (amount, (rw (b .ledgers .queues s i) (own-waits q (turns s i) (now .ledgers q .queue s i) (b .ledgers .lined s i) own), tt)))
 
-  due-too : (a : Action) → AcceptedToo a
-  due-too (Make m i c) = make-too m i c
-  due-too (Deliver i s) = deliver-too i s
-  due-too Nothing = λ e own. e
+  due-too : (a : Action) (fits : Bool) → AcceptedToo a fits
+  due-too (Make m i c) fits = make-too m i c fits
+  due-too (Deliver i s) fits = deliver-too i s fits
+  due-too Nothing fits = λ e own. e
 
   accepted-too : (s : Step) → step-on r k L s (now .state) .answer .number ≡ 0 → belongs-by-turns q (ledger-step s) turns ≡ true → step-on r k L s (alone .state) .answer .number ≡ 0
   accepted-too s e own =
-      action-due alone q (action-of s) ∙ due-too (action-of s) (sym (action-due now q (action-of s)) ∙ e) own
+      action-due alone q (action-of s) (amount-fits s) ∙ due-too (action-of s) (amount-fits s) (sym (action-due now q (action-of s) (amount-fits s)) ∙ e) own
 
   -- and it answers the same value: the ledgers have the same sets of q
   same-value : (s : Step) → step-on r k L s (now .state) .answer .number ≡ 0 → belongs-by-turns q (ledger-step s) turns ≡ true
       → step-on r k L s (alone .state) .answer .value ≡ step-on r k L s (now .state) .answer .value
   same-value s e own =
-      accepted-value alone q (action-of s) (accepted-too s e own)
+      accepted-value alone q (action-of s) (amount-fits s) (accepted-too s e own)
       ∙ same-asked q turns (run-cards now) (run-cards alone) b (action-of s) own
-      ∙ sym (accepted-value now q (action-of s) e)
+      ∙ sym (accepted-value now q (action-of s) (amount-fits s) e)
 
 -- ---- a list of steps
 

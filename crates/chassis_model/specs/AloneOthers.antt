@@ -2,7 +2,7 @@
 -- (`IsMaking.isolates`, replica_model's `take-isolates`), and every row of a card that a run or a history reaches is well-formed, so reads stay.
 use Prim.Native.Nat.{ℕ, suc, _*_, _<_}
 use mathlib.Core.Path.{_≡_, refl, sym, ap, _∙_}
-use mathlib.Core.Bool.{true, false}
+use mathlib.Core.Bool.{Bool, true, false}
 use mathlib.Core.List.{List}
 use lib.ListN.{length, drop}
 use borrow.Author.Tests.{ltb-true, eqb-false}
@@ -11,7 +11,7 @@ use Rattle.protocol.specs.Checks.{AllPass}
 use Rattle.protocol.specs.Tables.{put, put-at, put-other}
 use Rattle.protocol.specs.Ledger.{Ledger}
 use Rattle.protocol.specs.Chassis.{Chassis}
-use Rattle.wire.specs.Message.{message-at}
+use Rattle.wire.specs.Message.{version-2, message-at}
 use Rattle.replica_model.specs.Layout.{cards, counters, own-card, replica-length}
 use Rattle.replica_model.specs.Calls.{state, sizes-in-range, read-on, ClearedOutcome, take-on}
 use Rattle.replica_model.specs.ClaimTerms.{Right, Isolates}
@@ -19,12 +19,12 @@ use Rattle.replica_model.specs.RowLaws.{row-from, sizes}
 use Rattle.replica_model.specs.CallsLaws.{take-decided}
 use Rattle.replica_model.specs.Performed.{performed}
 use Rattle.replica_model.specs.Claims.{take-performs, take-isolates}
-use Rattle.replica_model.specs.Format.{format-1}
+use Rattle.replica_model.specs.Format.{format-2}
 use Rattle.chassis_model.specs.Log.{waiting-part}
 use Rattle.chassis_model.specs.ListParts.{part, put-part}
 use Rattle.chassis_model.specs.ListPartsLaws.{put-part-same, part-put}
 use Rattle.chassis_model.specs.Run as run
-use Rattle.chassis_model.specs.Run.{Making, Action, Make, Deliver, Nothing, Step, action-of, call-of, State, Stepped, replica-of, log-of, N-at, free-from, made, delivered, step-checks, acted, step-on, state-after}
+use Rattle.chassis_model.specs.Run.{Making, Action, Make, Deliver, Nothing, Step, action-of, amount-fits, call-of, State, Stepped, replica-of, log-of, N-at, free-from, made, delivered, step-checks, acted, step-on, state-after}
 use Rattle.chassis_model.specs.Answers.{fresh-state}
 use Rattle.chassis_model.specs.Driver.{Call, make, take, Cards, sent, called}
 use Rattle.chassis_model.specs.Alone.{of-counter, call-counter}
@@ -54,7 +54,7 @@ take-fits : (b bytes : List ℕ) → Right b → length (take-on b bytes .words)
 take-fits b bytes h =
     by-place (take-on b bytes .answer .number) 0
     (λ e. take-performs b bytes e .shows .fits)
-    (λ d. rw (take-decided format-1 b bytes .refused d) (h .fits))
+    (λ d. rw (take-decided format-2 b bytes .refused d) (h .fits))
 
 -- ---- the cards of a chassis, one of which gets other words
 
@@ -85,7 +85,7 @@ module _ (r k L : ℕ) (st : State) where
   link-declined : (i s : ℕ) → (delivered r k L i s st .answer .number ≡ 0 → ⊥) → delivered r k L i s st .state ≡ st
   unfolding delivered
   link-declined i s d =
-      rw (take-decided format-1 (replica-of r k L st i) (waiting-part (suc (N-at r k L st i s)) (log-of r k L st s)) .refused d, put-part-same (replica-length r k) i (st .words))
+      rw (take-decided format-2 (replica-of r k L st i) (waiting-part (suc (N-at r k L st i s)) (log-of r k L st s)) .refused d, put-part-same (replica-length r k) i (st .words))
 
   performed-declined : (a : Action) → (run.performed r k L a st .answer .number ≡ 0 → ⊥) → run.performed r k L a st .state ≡ st
   performed-declined (Make m i q) d = made-declined m i q d
@@ -94,7 +94,7 @@ module _ (r k L : ℕ) (st : State) where
 
   pub declined-leaves : (s : Step) → (step-on r k L s st .answer .number ≡ 0 → ⊥) → step-on r k L s st .state ≡ st
   declined-leaves s =
-      acted-cases r k L st (λ stepped. (stepped .answer .number ≡ 0 → ⊥) → stepped .state ≡ st) (action-of s) (λ n some d. refl) (λ passes. performed-declined (action-of s))
+      acted-cases r k L st (λ stepped. (stepped .answer .number ≡ 0 → ⊥) → stepped .state ≡ st) (action-of s) (amount-fits s) (λ n some d. refl) (λ passes. performed-declined (action-of s))
 
 -- ---- of another counter
 
@@ -111,18 +111,18 @@ module _ {r k L : ℕ} (now : RunAt r k L) (q i : ℕ) (hi : i < r) (hq : q < k)
       rw (part-put r (replica-length r k) j b (now .state .words) (now .matches .words-fit) hj (rw (head .cards-are, head .counters-are) at fits) i)
       (reads-leave (run-cards now) j c q b only other i hi hq)
 
-  performed-stays : (a : Action) → AllPass (step-checks r k L a (now .state)) → of-counter r k L q a (now .state) ≡ false → ReadStays (run.performed r k L a (now .state))
+  performed-stays : (a : Action) (fits : Bool) → AllPass (step-checks r k L a fits (now .state)) → of-counter r k L q a (now .state) ≡ false → ReadStays (run.performed r k L a (now .state))
   unfolding of-counter made delivered
-  performed-stays (Make m j c) passes other =
-      let hj = maker-there r k L (now .state) m j c passes in
+  performed-stays (Make m j c) fits passes other =
+      let hj = maker-there r k L (now .state) m j c fits passes in
       words-leave j c _ hj (send-fits m c _ _ (reached-right (run-cards now) j hj)) (making m .isolates c _ _) (eqb-false c q other)
-  performed-stays (Deliver j s) passes other =
-      let hj = link-there r k L (now .state) j s passes .0 .0 in
+  performed-stays (Deliver j s) fits passes other =
+      let hj = link-there r k L (now .state) j s fits passes .0 .0 in
       words-leave j _ _ hj (take-fits _ _ (reached-right (run-cards now) j hj)) (take-isolates _ _) (eqb-false _ q other)
-  performed-stays Nothing passes other = refl
+  performed-stays Nothing fits passes other = refl
 
-  others-leave : (a : Action) → of-counter r k L q a (now .state) ≡ false → ReadStays (acted r k L a (now .state))
-  others-leave a other = acted-cases r k L (now .state) ReadStays a (λ n some. refl) (λ passes. performed-stays a passes other)
+  others-leave : (a : Action) (fits : Bool) → of-counter r k L q a (now .state) ≡ false → ReadStays (acted r k L a fits (now .state))
+  others-leave a fits other = acted-cases r k L (now .state) ReadStays a fits (λ n some. refl) (λ passes. performed-stays a fits passes other)
 
 pub others-leave-after : (r k L q : ℕ) (before : List Step) (s : Step) (logs : List ℕ) → sizes-in-range r k ≡ true → length logs ≡ r * L
     → let st = state-after r k L before (fresh-state r k L logs) in
@@ -130,7 +130,7 @@ pub others-leave-after : (r k L q : ℕ) (before : List Step) (s : Step) (logs :
     → (i : ℕ) → i < r → q < k → read-on (replica-of r k L (step-on r k L s st .state) i) q ≡ read-on (replica-of r k L st i) q
 others-leave-after r k L q before s logs right fits other i hi hq =
     let ran = run-matches before (run-at (fresh-matches r k L logs (sizes r k right) fits)) in
-    others-leave (run-at (ran .0)) q i hi hq (action-of s) other
+    others-leave (run-at (ran .0)) q i hi hq (action-of s) (amount-fits s) other
 
 -- ---- a driver's call, be it genuine or forged
 
@@ -140,4 +140,4 @@ unfolding called sent
 other-call-leaves st h (make m j c out) i q other hi hq =
     reads-leave (cards-at h) j c q _ (making m .isolates c (st .words j) out) other i hi hq
 other-call-leaves st h (take j bytes) i q other hi hq =
-    reads-leave (cards-at h) j (message-at bytes .counter) q _ (take-isolates (st .words j) bytes) other i hi hq
+    reads-leave (cards-at h) j (message-at version-2 bytes .counter) q _ (take-isolates (st .words j) bytes) other i hi hq

@@ -17,9 +17,9 @@ use Rattle.protocol.specs.Theorem.{Invariant}
 use Rattle.protocol.specs.Alone as queues
 use Rattle.protocol.specs.Alone.{Turns, turned, belongs-by-turns}
 use Rattle.protocol.specs.AloneTurns.{TurnsAre, belongs-is, stepped-turns}
-use Rattle.wire.specs.Message.{message-at}
+use Rattle.wire.specs.Message.{version-2, message-at}
 use Rattle.replica_model.specs.Layout.{N-of}
-use Rattle.chassis_model.specs.Run.{Action, Make, Deliver, Nothing, Step, StepAnswer, action-of, State, acted, step-on, answers-of, numbers-in}
+use Rattle.chassis_model.specs.Run.{Action, Make, Deliver, Nothing, Step, StepAnswer, action-of, amount-fits, State, acted, step-on, answers-of, numbers-in}
 use Rattle.chassis_model.specs.Ledger.{ledger-action, ledger-step, was-accepted, accepted-of}
 use Rattle.chassis_model.specs.Driver.{Call, make, take, Cards, called, number-of, value-of, GenuineCall, Genuine, numbers, call-step}
 use Rattle.chassis_model.specs.Alone.{of-counter, own-from, call-counter, own-calls-from}
@@ -57,21 +57,21 @@ module _ (r q : ℕ) (ch : Chassis) (l : Ledger) (ok : Invariant r q ch l) (turn
 
 module _ {r k L : ℕ} (now : RunAt r k L) where
   -- an action that the chassis accepts is of the same counter there and here
-  pub counter-is : (q : ℕ) (a : Action) → acted r k L a (now .state) .answer .number ≡ 0 → enabled r (ledger-action a) (now .chassis) ≡ true
+  pub counter-is : (q : ℕ) (a : Action) (fits : Bool) → acted r k L a fits (now .state) .answer .number ≡ 0 → enabled r (ledger-action a) (now .chassis) ≡ true
       → of-counter r k L q a (now .state) ≡ eqb (queues.step-counter (ledger-action a) (now .chassis)) q
   unfolding of-counter queues.step-counter ledger-action acted
-  counter-is q (Make m i c) e on = rw (making-counter m i c (now .chassis))
-  counter-is q (Deliver i s) e on =
+  counter-is q (Make m i c) fits e on = rw (making-counter m i c (now .chassis))
+  counter-is q (Deliver i s) fits e on =
       let d = deliver-enabled r i s (now .chassis) on in
       let N = reached-N (run-cards now) i s (d .receiver) (d .sender) in
       let own = reached-N (run-cards now) s s (d .sender) (d .sender) in
       let waits : N-in now i s < N-in now s s = rw (N, own) (d .waits) in
       ap (λ (c : ℕ). eqb c q)
-      (ap (λ (bytes : List ℕ). message-at bytes .counter) (due-stands now i s (d .receiver) (d .sender) waits .waits)
+      (ap (λ (bytes : List ℕ). message-at version-2 bytes .counter) (due-stands now i s (d .receiver) (d .sender) waits .waits)
       ∙ rw N
       (counter-read (run-cards now) i s (d .receiver) (d .sender) (now .chassis .replica i .N s)
       (rw (← (made-all (run-cards now) s)) (d .waits))))
-  counter-is q Nothing e on = absurd (omega arith)
+  counter-is q Nothing fits e on = absurd (omega arith)
 
 -- q's own steps of a list, run from st, as the queues tell them
 abbrev pub queued-steps : ℕ → ℕ → ℕ → ℕ → List Step → State → Turns → List Step
@@ -102,7 +102,7 @@ own-from-is {A} f {r} {k} {L} q (s ∷ ss) now turns are =
     let here = step-matches now s in
     let answer = step-on r k L s (now .state) .answer in
     ap₂ (λ (t : Bool) (rest : List A). cond t (f s answer ∷ []) [] ++ rest)
-    (picked r q (now .chassis) (now .ledgers q) ok turns are (ledger-step s) (answer .number) (here .1) (of-counter r k L q (action-of s) (now .state)) (counter-is now q (action-of s)))
+    (picked r q (now .chassis) (now .ledgers q) ok turns are (ledger-step s) (answer .number) (here .1) (of-counter r k L q (action-of s) (now .state)) (counter-is now q (action-of s) (amount-fits s)))
     (own-from-is f q ss (run-at (here .0)) _ (next-turns r q (now .chassis) (now .ledgers q) ok turns are (ledger-step s) (answer .number) (here .1)))
 
 pub own-steps-are : {r k L : ℕ} (q : ℕ) (ss : List Step) (now : RunAt r k L) (turns : Turns) → TurnsAre turns (now .chassis)
@@ -117,12 +117,12 @@ module _ {r k : ℕ} (now : DriverAt r k) where
   unfolding queues.step-counter
   call-counter-is (make m i q out) g e on = sym (making-counter m i q (now .chassis))
   call-counter-is (take i bytes) g e on =
-      let s = message-at bytes .sender in
+      let s = message-at version-2 bytes .sender in
       let d = deliver-enabled r i s (now .chassis) on in
       let N = reached-N (driver-cards now) i s (d .receiver) (d .sender) in
       let made : now .chassis .replica i .N s < length (now .chassis .log s) = rw (← (made-all (driver-cards now) s)) (d .waits) in
       let written : N-of r (now .state .words i) s < length (now .state .written s) = rw (written-length now s, N) made in
-      ap (λ (y : List ℕ). message-at y .counter)
+      ap (λ (y : List ℕ). message-at version-2 y .counter)
       (due-bytes now i bytes (d .receiver) (g e) e ∙ written-at now s (N-of r (now .state .words i) s) written)
       ∙ rw N (counter-read (driver-cards now) i s (d .receiver) (d .sender) (now .chassis .replica i .N s) made)
 

@@ -62,11 +62,11 @@ pub after-clear : (r k : ℕ) → sizes-in-range r k ≡ true → (calls : List 
     number-of (make m i q out) st ≡ 0 → (read-on (st′ .words i) q .number ≡ 0) × (read-on (st′ .words i) q .value ≡ 0)
 after-clear = laws.after-clear
 
--- WHAT A COUNT ADDS. After every genuine history, a count that is accepted raises by one what that card reads of that counter; both reads are accepted.
+-- WHAT A COUNT ADDS. After every genuine history, a count by w that is accepted raises by w what that card reads of that counter; both reads are accepted.
 pub after-count : (r k : ℕ) → sizes-in-range r k ≡ true → (calls : List Call) → GenuineHistory r k calls
-    → (i q : ℕ) (out : List ℕ)
+    → (i q w : ℕ) (out : List ℕ)
     → let st = cards-after r k calls in
-    let st′ = called (count i q out) st in
-    number-of (count i q out) st ≡ 0
-    → (read-on (st .words i) q .number ≡ 0) × (read-on (st′ .words i) q .number ≡ 0) × (read-on (st′ .words i) q .value ≡ read-on (st .words i) q .value + 1)
+    let st′ = called (count i q w out) st in
+    number-of (count i q w out) st ≡ 0
+    → (read-on (st .words i) q .number ≡ 0) × (read-on (st′ .words i) q .number ≡ 0) × (read-on (st′ .words i) q .value ≡ read-on (st .words i) q .value + w)
 after-count = laws.after-count

@@ -133,19 +133,19 @@ module _ (r k : ℕ) (right : sizes-in-range r k ≡ true) where
       )
 
   pub after-count : (calls : List Call) → GenuineHistory r k calls
-      → (i q : ℕ) (out : List ℕ)
+      → (i q w : ℕ) (out : List ℕ)
       → let st = cards-after r k calls in
-      let st′ = called (count i q out) st in
-      number-of (count i q out) st ≡ 0
-      → (read-on (st .words i) q .number ≡ 0) × (read-on (st′ .words i) q .number ≡ 0) × (read-on (st′ .words i) q .value ≡ read-on (st .words i) q .value + 1)
+      let st′ = called (count i q w out) st in
+      number-of (count i q w out) st ≡ 0
+      → (read-on (st .words i) q .number ≡ 0) × (read-on (st′ .words i) q .number ≡ 0) × (read-on (st′ .words i) q .value ≡ read-on (st .words i) q .value + w)
   unfolding ledger-reading ledger-action
-  after-count calls g i q out ok =
-      let there = accepted-there r k Count i q out _ _ (sym (call-numbers r k right calls g (count i q out) tt) ∙ ok) in
+  after-count calls g i q w out ok =
+      let there = accepted-there r k (Count w) i q out _ _ (sym (call-numbers r k right calls g (count i q w out) tt) ∙ ok) in
       let before = driver-theorem r k right calls g i q (there .0) (there .1) in
-      let now = accepted-reading calls g (count i q out) tt ok i q (there .0) (there .1) in (
+      let now = accepted-reading calls g (count i q w out) tt ok i q (there .0) (there .1) in (
         ap (λ (a : Reading). a .number) before,
         ap (λ (a : Reading). a .number) now,
-        ap (λ (a : Reading). a .value) now ∙ value-gains r q (map call-step calls) _ i 1 ∙ ap (λ (a : Reading). a .value + 1) (sym before),
+        ap (λ (a : Reading). a .value) now ∙ value-gains r q (map call-step calls) _ i w ∙ ap (λ (a : Reading). a .value + w) (sym before),
       )
 
 -- ---- a run's steps

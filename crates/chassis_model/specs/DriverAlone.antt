@@ -20,11 +20,11 @@ use Rattle.protocol.specs.Enabled.{deliver-enabled}
 use Rattle.protocol.specs.Alone as queues
 use Rattle.protocol.specs.Alone.{Turns, no-turns, belongs-by-turns}
 use Rattle.protocol.specs.AloneRuns.{fresh-beside, own-enabled, own-done, other-done}
-use Rattle.wire.specs.Message.{message-at}
-use Rattle.replica_model.specs.Layout.{N-of}
+use Rattle.wire.specs.Message.{version-2, message-at}
+use Rattle.replica_model.specs.Layout.{C-of, N-of}
 use Rattle.replica_model.specs.Calls.{sizes-in-range, left-checks, read-on}
 use Rattle.replica_model.specs.RowLaws.{sizes}
-use Rattle.chassis_model.specs.Run.{Making, Make}
+use Rattle.chassis_model.specs.Run.{Making, Make, counted}
 use Rattle.chassis_model.specs.Answers.{message-size}
 use Rattle.chassis_model.specs.Driver.{Call, make, take, Cards, opened, called, number-of, value-of, GenuineCall, Genuine, after, numbers, values, cards-after, GenuineHistory, call-step, number-checks, due-number}
 use Rattle.chassis_model.specs.Alone.{own-calls, own-call-values, again, replayed}
@@ -49,21 +49,21 @@ module _ {r k : ℕ} (q : ℕ) (turns : Turns) (now alone : DriverAt r k) (b : C
   make-again m i c out ok is =
       let a = make m i c out in
       let e = sym (call-number now a tt) ∙ ok in
-      let (there, (counter, rest)) = first-passes (number-checks r k a (now .state) (now .ledgers)) (number-distinct r k a (now .state) (now .ledgers)) e in
+      let (there, (counter, (amount, rest))) = first-passes (number-checks r k a (now .state) (now .ledgers)) (number-distinct r k a (now .state) (now .ledgers)) e in
       let hi = ltb-true i r there in
       let size : message-size r m i c (alone .ledgers c) ≡ message-size r m i c (now .ledgers c) = rw is (same-size q turns (driver-cards now) (driver-cards alone) b m i) in
-      let left = left-checks (N-of r (now .state .words i) i) in
+      let left = left-checks (N-of r (now .state .words i) i) (C-of (now .state .words i) i) (counted m) in
       let last = or-else (leb (message-size r m i c (now .ledgers c)) (length out)) short-output ∷ [] in
-      let more = more-left q turns (driver-cards now) (driver-cards alone) b i hi (all-first left last rest) in
+      let more = more-left q turns (driver-cards now) (driver-cards alone) b i (counted m) hi (all-first left last rest) in
       call-number alone a tt
       ∙ all-accepts (λ n. n) 0 (number-checks r k a (alone .state) (alone .ledgers))
-      (there, (counter, all-append (left-checks (N-of r (alone .state .words i) i)) (or-else (leb (message-size r m i c (alone .ledgers c)) (length out)) short-output ∷ []) more (rw size (all-second left last rest .0), tt)))
+      (there, (counter, (amount, all-append (left-checks (N-of r (alone .state .words i) i) (C-of (alone .state .words i) i) (counted m)) (or-else (leb (message-size r m i c (alone .ledgers c)) (length out)) short-output ∷ []) more (rw size (all-second left last rest .0), tt))))
 
   take-again : (i : ℕ) (bytes : List ℕ) → GenuineCall (take i bytes) (now .state) → number-of (take i bytes) (now .state) ≡ 0
-      → belongs-by-turns q (ledger.deliver i (message-at bytes .sender)) turns ≡ true → Again r (take i bytes) (alone .state)
+      → belongs-by-turns q (ledger.deliver i (message-at version-2 bytes .sender)) turns ≡ true → Again r (take i bytes) (alone .state)
   unfolding number-of
   take-again i bytes g ok own =
-      let s = message-at bytes .sender in
+      let s = message-at version-2 bytes .sender in
       let n = N-of r (alone .state .words i) s in
       let x = getD (alone .state .written s) n [] in
       let d = deliver-enabled r i s (alone .chassis) (own-enabled r q turns (now .chassis) (now .ledgers q) (alone .chassis) (alone .ledgers q) b (ledger.deliver i s) own (accepted-enabled now (take i bytes) g ok)) in

@@ -13,7 +13,7 @@ use Rattle.protocol.specs.Chassis as protocol
 use Rattle.protocol.specs.Chassis.{Message, Replica, taken, issued}
 use Rattle.protocol.specs.InvariantSteps.{taken-N}
 use Rattle.wire.specs.declared.Message as wire
-use Rattle.wire.specs.Message.{called-length, reads, front-length, message-length}
+use Rattle.wire.specs.Message.{version-2, called-length, reads, front-length, message-length}
 use Rattle.replica_model.specs.Format.{on-wire}
 use Rattle.chassis_model.specs.Log.{end-of}
 use Rattle.chassis_model.specs.LogLaws.{Readable, AllReadable, written, end-moves, ends-stay}
@@ -28,19 +28,19 @@ use Rattle.chassis_model.specs.DeliveredSteps.{due-stands, state-deliver
 
 -- ---- messages end in their log
 
-pub front-within : (log : List ℕ) → front-length log ≤ length log
+pub front-within : (log : List ℕ) → front-length version-2 log ≤ length log
 unfolding front-length
 front-within log =
-    by-test (leb (called-length log) (length log) && reads (take (called-length log) log))
-    (λ e. rw e (leb-true (called-length log) (length log) (and-left (leb (called-length log) (length log)) _ e)))
+    by-test (leb (called-length version-2 log) (length log) && reads version-2 (take (called-length version-2 log) log))
+    (λ e. rw e (leb-true (called-length version-2 log) (length log) (and-left (leb (called-length version-2 log) (length log)) _ e)))
     (λ e. rw e (omega arith))
 
 pub ends-within : (n : ℕ) (log : List ℕ) → end-of n log ≤ length log
 unfolding end-of
 ends-within zero log = omega arith
 ends-within (suc n) log =
-    let rest = ends-within n (drop (front-length log) log) in
-    let long = length-drop (front-length log) log in
+    let rest = ends-within n (drop (front-length version-2 log) log) in
+    let long = length-drop (front-length version-2 log) log in
     let front = front-within log in
     omega arith
 

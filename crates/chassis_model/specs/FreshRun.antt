@@ -9,6 +9,8 @@ use lib.Seq.{take-all, drop-at}
 use Rattle.protocol.specs.Cases.{by-place}
 use Rattle.protocol.specs.Ledger.{empty-ledger}
 use Rattle.protocol.specs.Chassis.{fresh-chassis}
+use Rattle.protocol.specs.Limits.{MAX}
+use Rattle.protocol.specs.OwnBounded.{fresh-bounded}
 use Rattle.protocol.specs.Theorem.{fresh-invariant}
 use Rattle.replica_model.specs.Layout.{replica-length, fresh-words}
 use Rattle.replica_model.specs.LayoutLaws.{fresh-shows}
@@ -67,7 +69,7 @@ fresh-cards-show r k = record {
   shows = λ i l. fresh-shows r k i;
   readable = λ j l n m. absurd (omega arith);
   sendable = λ j l n m. absurd (omega arith);
-  few = λ j l. omega arith;
+  own = fresh-bounded MAX;
 }
 
 pub fresh-matches : (r k L : ℕ) (logs : List ℕ) → Sizes r k → length logs ≡ r * L

@@ -9,9 +9,9 @@ use Rattle.protocol.specs.Functions.{count-below}
 use Rattle.replica_model.specs.declared.Reading.{Reading}
 use Rattle.chassis_model.specs.Run.{Step, Action, Make, Deliver, Nothing, Count, Clear, ReadAndClear, action-of, numbers-in}
 
--- the action as the ledger knows it. A count is by one unit. "To the ledger a read and clear is a clear." A step of no kind is never accepted: nothing is handed over from a card to itself
+-- the action as the ledger knows it. "To the ledger a read and clear is a clear." A step of no kind is never accepted: nothing is handed over from a card to itself
 unfoldable pub ledger-action : Action → protocol.Step
-ledger-action (Make Count i q) = count i q 1
+ledger-action (Make (Count w) i q) = count i q w
 ledger-action (Make Clear i q) = clear i q
 ledger-action (Make ReadAndClear i q) = clear i q
 ledger-action (Deliver i s) = deliver i s

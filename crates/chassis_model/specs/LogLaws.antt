@@ -15,12 +15,13 @@ use Rattle.protocol.specs.Limits.{most-cards}
 use Rattle.protocol.specs.Cases.{by-test}
 use Rattle.protocol.specs.Lists.{places-more}
 use Rattle.wire.specs.declared.Message.{Message}
-use Rattle.wire.specs.Message.{no-message, message-bytes, message-length, clear-kind, in-range, called-length, front-length, over, shortest-message}
+use Rattle.wire.specs.Message.{version-2, no-message, message-bytes, message-length, clear-kind, in-range, called-length, front-length, over, shortest-message}
 use Rattle.wire.specs.Claims.{message-bytes-length, front-of-message}
 use Rattle.chassis_model.specs.Log.{waiting-part, end-of}
 
--- a message that reads once it is written
+-- a message of version 2 that reads once it is written
 pub record Readable (m : Message) : Type 0 where
+  pub version : m .version ≡ version-2
   pub fits : in-range m ≡ true
   pub held : length (m .entries) ≡ most-cards
 
@@ -52,31 +53,34 @@ module _ (q : ℕ) (log : List ℕ) where
   waiting-zero none = rw none
 
   -- the one at the front is asked for
-  pub waiting-here : q ≡ 1 → waiting-part q log ≡ take (front-length log) log
+  pub waiting-here : q ≡ 1 → waiting-part q log ≡ take (front-length version-2 log) log
   unfolding waiting-part
   waiting-here one = rw one
 
 -- another is asked for, and none stands at the front
-pub waiting-none : (q : ℕ) (log : List ℕ) → 1 < q → front-length log ≡ 0 → waiting-part q log ≡ []
+pub waiting-none : (q : ℕ) (log : List ℕ) → 1 < q → front-length version-2 log ≡ 0 → waiting-part q log ≡ []
 unfolding waiting-part
 waiting-none zero log more none = refl
 waiting-none (suc zero) log more none = absurd (omega arith)
-waiting-none (suc (suc q)) log more none = rw (eq-eqb (front-length log) 0 none)
+waiting-none (suc (suc q)) log more none = rw (eq-eqb (front-length version-2 log) 0 none)
 
 -- another is asked for, and the one at the front is passed
-pub waiting-next : (q : ℕ) (log : List ℕ) → 1 < q → (front-length log ≡ 0 → ⊥) → waiting-part (q - 1) (drop (front-length log) log) ≡ waiting-part q log
+pub waiting-next : (q : ℕ) (log : List ℕ) → 1 < q → (front-length version-2 log ≡ 0 → ⊥) → waiting-part (q - 1) (drop (front-length version-2 log) log) ≡ waiting-part q log
 unfolding waiting-part
 waiting-next zero log more some = absurd (omega arith)
 waiting-next (suc zero) log more some = absurd (omega arith)
-waiting-next (suc (suc q)) log more some = rw (ne-eqb (front-length log) 0 some, sub-one)
+waiting-next (suc (suc q)) log more some = rw (ne-eqb (front-length version-2 log) 0 some, sub-one)
 
 -- ---- the first message of a log
 
 module _ (m : Message) (rest : List ℕ) (good : Readable m) where
-  front : front-length (message-bytes m ++ rest) ≡ length (message-bytes m)
-  front = front-of-message m rest (good .held) (good .fits) .0 ∙ sym (message-bytes-length m)
+  front : front-length version-2 (message-bytes m ++ rest) ≡ length (message-bytes m)
+  front =
+      ap (λ (v : ℕ). front-length v (message-bytes m ++ rest)) (sym (good .version))
+      ∙ front-of-message m rest (good .held) (good .fits) .0
+      ∙ sym (message-bytes-length m)
 
-  some : front-length (message-bytes m ++ rest) ≡ 0 → ⊥
+  some : front-length version-2 (message-bytes m ++ rest) ≡ 0 → ⊥
   some e = omega (arith, e, front, message-bytes-length m, least-message m)
 
   end-of-first : (n : ℕ) → end-of (suc n) (message-bytes m ++ rest) ≡ length (message-bytes m) + end-of n rest
@@ -129,7 +133,7 @@ waiting-of-bytes (m ∷ ms) rest all (suc n) l =
 
 -- message m is the one after the first n of the log, and all its bytes are there
 pub record Stands (log : List ℕ) (n : ℕ) (m : Message) : Type 0 where
-  pub called : called-length (drop (end-of n log) log) ≡ message-length m
+  pub called : called-length version-2 (drop (end-of n log) log) ≡ message-length m
   pub header : shortest-message ≤ length (drop (end-of n log) log)
   pub room : message-length m ≤ length (drop (end-of n log) log)
   pub next : end-of (suc n) log ≡ end-of n log + message-length m
@@ -164,7 +168,9 @@ module _ (ms : List Message) (rest log : List ℕ) (is : log ≡ log-bytes ms ++
       let long : length (drop (end-of n log) log) ≡ message-length m + length others =
       ap length (rest-of-log n l) ∙ length-append (message-bytes m) others ∙ ap (λ (k : ℕ). k + length others) (message-bytes-length m) in
       record {
-        called = rw (rest-of-log n l) (front-of-message m others (good .held) (good .fits) .1);
+        called =
+            rw (rest-of-log n l)
+            (ap (λ (v : ℕ). called-length v (message-bytes m ++ others)) (sym (good .version)) ∙ front-of-message m others (good .held) (good .fits) .1);
         header = omega (arith, long, least-message m);
         room = omega (arith, long);
         next = next-of-log n l;

@@ -1,15 +1,15 @@
--- LAWS. A step of a reached state that makes a message: one of four things comes of the call (3, 4, 5 or a message sent), so the step answers 3, 4 or 14
+-- LAWS. A step of a reached state that makes a message: one of five things comes of the call (3, 16, 4, 5 or a message sent), so the step answers 3, 16, 4 or 14
 -- and leaves all as it was, or answers 0 and leaves the state with the message made, which is the chassis's with that message issued.
 use Prim.Native.Nat.{ℕ, _+_, _-_, _*_, _≤_, _<_}
 use mathlib.Core.Path.{_≡_, refl, sym, ap, _∙_}
 use mathlib.Core.Logic.{_≢_}
-use mathlib.Core.Bool.{cond}
+use mathlib.Core.Bool.{true, cond}
 use mathlib.Core.List.{List, [], _∷_, _++_}
 use native.Mathlib.Omega.{arith}
 use lib.ListN.{length, take, drop, length-append, length-take, length-drop, take-append-drop}
 use lib.Dec.{eqb, ltb, leb}
 use borrow.Author.Tests.{ne-eqb}
-use Rattle.protocol.specs.Limits.{bad-counter, short-output, log-full}
+use Rattle.protocol.specs.Limits.{bad-counter, short-output, log-full, bad-amount}
 use Rattle.protocol.specs.Cases.{by-place}
 use Rattle.protocol.specs.Checks.{or-else, first-failing}
 use Rattle.protocol.specs.ChecksLaws.{last-renamed}
@@ -23,14 +23,14 @@ use Rattle.replica_model.specs.Calls.{left-checks, not-sent, words-after, Clear
 use Rattle.replica_model.specs.Format.{on-wire}
 use Rattle.chassis_model.specs.ListParts.{put-part}
 use Rattle.chassis_model.specs.ListPartsLaws.{part-length, put-part-same, put-part-length, part-put}
-use Rattle.chassis_model.specs.Run.{Making, call-of, State, Stepped, declined, replica-of, log-of, free-from, made}
+use Rattle.chassis_model.specs.Run.{Making, counted, asked, call-of, State, Stepped, declined, replica-of, log-of, free-from, made}
 use Rattle.chassis_model.specs.Answers.{message-size, maker-checks}
 use Rattle.chassis_model.specs.Log.{end-of}
 use Rattle.chassis_model.specs.LogLaws.{Readable, AllReadable, written, written-log}
 use Rattle.chassis_model.specs.Numbered.{wire-log, wire-log-append, length-numbered}
 use Rattle.chassis_model.specs.InStep.{CardsShow, own-N}
-use Rattle.chassis_model.specs.Matches.{Holds, RunAt, run-cards, words-in, log-in, N-in, free-in, room-in, put-words-fit, put-words-show}
-use Rattle.chassis_model.specs.Sends.{Outgoing, next-message, told, value-told, call-cases, issued-here}
+use Rattle.chassis_model.specs.Matches.{Holds, RunAt, run-cards, words-in, log-in, N-in, C-in, free-in, room-in, put-words-fit, put-words-show}
+use Rattle.chassis_model.specs.Sends.{Going, Outgoing, next-message, told, value-told, call-cases, issued-here}
 
 -- ---- one log: a message goes to its end
 
@@ -88,16 +88,16 @@ module _ {r k L : ℕ} (now : RunAt r k L) (i : ℕ) (m : Message) where
 module _ {r k L : ℕ} (now : RunAt r k L) (m : Making) (i q : ℕ) (hi : i < r) where
   -- what the call's checks give a step
   abbrev pub told-step : ℕ
-  told-step = first-failing (maker-checks k q (N-in now i i) (leb (message-size r m i q (now .ledgers q)) (length (room-in now i))) log-full)
+  told-step = first-failing (maker-checks k q m true (N-in now i i) (C-in now i) (leb (message-size r m i q (now .ledgers q)) (length (room-in now i))) log-full)
 
   step-told : (n : ℕ) → n ≡ told (run-cards now) m i q hi (length (room-in now i)) → step-number n ≡ told-step
   step-told n is =
       ap step-number is
-      ∙ last-renamed (or-else (ltb q k) bad-counter ∷ left-checks (N-in now i i)) (leb (message-size r m i q (now .ledgers q)) (length (room-in now i))) short-output log-full refl refl
+      ∙ last-renamed (or-else (ltb q k) bad-counter ∷ or-else (asked m) bad-amount ∷ left-checks (N-in now i i) (C-in now i) (counted m)) (leb (message-size r m i q (now .ledgers q)) (length (room-in now i))) short-output log-full refl refl
 
   pub made-cases : (P : Stepped → Type 0)
       → ((n : ℕ) → n ≢ 0 → n ≡ told-step → P (declined (now .state) n))
-      → (0 ≡ told-step → q < k → Outgoing r k i (words-in now i) (next-message r (now .chassis) m i q)
+      → (0 ≡ told-step → Going r k i q (words-in now i) m → Outgoing r k i (words-in now i) (next-message r (now .chassis) m i q)
       → message-size r m i q (now .ledgers q) ≤ length (room-in now i)
       → P (record { answer = record { number = 0; value = value-told (run-cards now) m i q hi }; state = state-made now i (next-message r (now .chassis) m i q) }))
       → P (made r k L i (call-of m q) (now .state))

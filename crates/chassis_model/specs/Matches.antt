@@ -12,7 +12,7 @@ use Rattle.replica_model.specs.Layout.{replica-length}
 use Rattle.replica_model.specs.Format.{on-wire}
 use Rattle.chassis_model.specs.ListParts.{part, put-part}
 use Rattle.chassis_model.specs.ListPartsLaws.{part-put, put-part-length}
-use Rattle.chassis_model.specs.Run.{State, replica-of, log-of, N-at, free-from}
+use Rattle.chassis_model.specs.Run.{State, replica-of, log-of, N-at, C-at, free-from}
 use Rattle.chassis_model.specs.LogLaws.{log-bytes, Stands, stands-in-log}
 use Rattle.chassis_model.specs.Numbered.{wire-log, wire-log-at, length-numbered}
 pub use Rattle.chassis_model.specs.InStep.{Sizes, InStep, CardsAt}
@@ -51,6 +51,10 @@ module _ {r k L : ℕ} (now : RunAt r k L) where
   -- how many messages of card s card i has received
   abbrev pub N-in : ℕ → ℕ → ℕ
   N-in i s = N-at r k L (now .state) i s
+
+  -- how much card i has counted
+  abbrev pub C-in : ℕ → ℕ
+  C-in i = C-at r k L (now .state) i
 
   -- where card i's next message goes, and the bytes from there on
   abbrev pub free-in : ℕ → ℕ

@@ -1,6 +1,6 @@
 -- LAWS. The two moves, on the words of the cards and on the chassis: a card makes a message, and a card takes the message that is due.
 -- Where the words were the chassis's before, they are after; so an accepted step of the theory leaves words that are in step with it.
-use Prim.Native.Nat.{ℕ, _+_, _<_}
+use Prim.Native.Nat.{ℕ, _+_, _≤_, _<_}
 use mathlib.Core.Path.{_≡_, _∙_}
 use mathlib.Core.Bool.{true}
 use mathlib.Core.List.{List, [], _∷_, _++_}
@@ -10,9 +10,9 @@ use Rattle.protocol.specs.Cases.{by-place}
 use Rattle.protocol.specs.Tables.{put, put-same, put-at, put-other}
 use Rattle.protocol.specs.Lists.{places-more}
 use Rattle.protocol.specs.Ledger.{Step, after-step}
-use Rattle.protocol.specs.Chassis.{Message, no-message, Replica, Chassis, taken, issued, delivered, done, enabled, Offer, stepped}
+use Rattle.protocol.specs.Chassis.{Message, no-message, Replica, Chassis, taken, issued, delivered, done, enabled, Offer, stepped, units-of}
 use Rattle.protocol.specs.StoreLaws.{Shows, InLimits, taken-shows}
-use Rattle.protocol.specs.InvariantSteps.{taken-N}
+use Rattle.protocol.specs.OwnBounded.{issued-bounded, delivered-bounded}
 use Rattle.protocol.specs.Theorem.{Invariant, step-invariant}
 use Rattle.replica_model.specs.Layout.{layout}
 use Rattle.replica_model.specs.ClaimTerms.{Right}
@@ -54,10 +54,11 @@ module _ {r k : ℕ} (now : CardsAt r k) where
   shown = now .in-step .cards-show
 
   -- card i makes m, which is its next message
-  pub issued-cards-show : (i : ℕ) (m : Message) → i < r → Sendable r k m → now .chassis .replica i .N i < MAX → Readable (on-wire i (now .chassis .replica i .N i + 1) m)
+  pub issued-cards-show : (i : ℕ) (m : Message) → i < r → Sendable r k m → now .chassis .replica i .N i < MAX → now .chassis .replica i .C i + units-of m ≤ MAX
+      → Readable (on-wire i (now .chassis .replica i .N i + 1) m)
       → CardsShow r k (put i (words-after i m (now .replicas i)) (now .replicas)) (issued i m (now .chassis))
   unfolding issued
-  issued-cards-show i m hi sends few good =
+  issued-cards-show i m hi sends few fits good =
       let on = sendable-limits r k m sends in
       let log = now .chassis .log i in
       let log-more : AllReadable (wire-log i (log ++ m ∷ []))
@@ -70,7 +71,7 @@ module _ {r k : ℕ} (now : CardsAt r k) where
             by-place j i
             (λ e. simp put-at (places-more (Sendable r k) no-message log m (shown .sendable i hi) sends n))
             (λ d. simp put-other (shown .sendable j l n));
-        few = λ j l. by-place j i (λ e. rw e (simp (put-same, taken-N) few)) (λ d. simp put-other (shown .few j l));
+        own = issued-bounded MAX i m (now .chassis) few fits (shown .own);
       }
 
   -- card i takes the message of card s that is due
@@ -85,7 +86,7 @@ module _ {r k : ℕ} (now : CardsAt r k) where
         shows = λ j l. by-place j i (λ e. simp put-at (taken-alike r k i s m (now .replicas i) (shown .heads i hi) hs on (now .chassis .replica i) (shown .shows i hi))) (λ d. simp put-other (shown .shows j l));
         readable = shown .readable;
         sendable = shown .sendable;
-        few = λ j l. by-place j i (λ e. rw e (simp (put-same, taken-N, put-other) (shown .few i hi))) (λ d. simp put-other (shown .few j l));
+        own = delivered-bounded MAX i s (now .chassis) apart (shown .own);
       }
 
 -- tables that agree below r
@@ -96,7 +97,7 @@ cards-show-same r k replicas replicas′ ch e a = record {
   shows = λ i l. rw (e i l) (a .shows i l);
   readable = a .readable;
   sendable = a .sendable;
-  few = a .few;
+  own = a .own;
 }
 
 -- ---- an accepted step

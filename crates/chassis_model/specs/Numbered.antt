@@ -1,4 +1,4 @@
--- LAWS. A card's messages as its log has them: on the wire, numbered from 1 on. What a message on the wire says is the message, if it is by one unit.
+-- LAWS. A card's messages as its log has them: on the wire, numbered from 1 on. What a message on the wire says is the message.
 use Prim.Native.Nat.{ℕ, zero, suc, _+_, _-_, _<_}
 use mathlib.Core.Path.{_≡_, refl, ap, _∙_}
 use mathlib.Core.Bool.{Bool, true, false, cond}
@@ -14,7 +14,7 @@ use Rattle.protocol.specs.StoreLaws.{CardsBelow, InLimits}
 use Rattle.protocol.specs.Acceptance.{entries-of}
 use Rattle.wire.specs.declared.Message as wire
 use Rattle.wire.specs.Message as form
-use Rattle.wire.specs.Message.{no-entry, increment-message}
+use Rattle.wire.specs.Message.{version-2, no-entry, increment-message}
 use Rattle.replica_model.specs.Format.{on-wire, content}
 
 -- card j's messages ms, of which the first has number n + 1
@@ -60,13 +60,13 @@ wire-log-at j ms n l = let e : 0 + n ≡ n = omega arith in numbered-at j 0 ms n
 
 -- ---- what a chassis of r cards and k counters sends
 
--- a counter below k, one unit, cards below r
+-- a counter below k, cards below r
 abbrev pub Sendable : ℕ → ℕ → protocol.Message → Type 0
-Sendable r k (increment q w p start) = (q < k) × (w ≡ 1)
+Sendable r k (increment q w p start) = q < k
 Sendable r k (clearing q ts) = (q < k) × CardsBelow r ts
 
 pub sendable-limits : (r k : ℕ) (m : protocol.Message) → Sendable r k m → InLimits r k m
-sendable-limits r k (increment q w p start) s = s .0
+sendable-limits r k (increment q w p start) s = s
 sendable-limits r k (clearing q ts) s = s
 
 pub sendable-entries : (r k : ℕ) (m : protocol.Message) → Sendable r k m → CardsBelow r (entries-of m)
@@ -74,7 +74,7 @@ sendable-entries r k (increment q w p start) sends = tt
 sendable-entries r k (clearing q ts) sends = sends .1
 
 pub sendable-counter : (r k : ℕ) (m : protocol.Message) → Sendable r k m → counter-of m < k
-sendable-counter r k (increment q w p start) s = s .0
+sendable-counter r k (increment q w p start) s = s
 sendable-counter r k (clearing q ts) s = s .0
 
 -- ---- a message on the wire
@@ -83,12 +83,17 @@ pub start-flag : (start : Bool) → eqb (cond start 1 0) 1 ≡ start
 start-flag true = refl
 start-flag false = refl
 
-pub content-on-wire : (r k sender sequence : ℕ) (m : protocol.Message) → Sendable r k m → content (on-wire sender sequence m) ≡ m
+pub content-on-wire : (sender sequence : ℕ) (m : protocol.Message) → content (on-wire sender sequence m) ≡ m
 unfolding content increment-message form.clear-message
-content-on-wire r k sender sequence (increment q w p start) s = rw (s .1, start-flag start)
-content-on-wire r k sender sequence (clearing q ts) s = ap (clearing q) (take-append-seam ts (replicate (most-cards - length ts) no-entry))
+content-on-wire sender sequence (increment q w p start) = rw (start-flag start)
+content-on-wire sender sequence (clearing q ts) = ap (clearing q) (take-append-seam ts (replicate (most-cards - length ts) no-entry))
 
 -- what stands in a message on the wire
+pub on-wire-version : (sender sequence : ℕ) (m : protocol.Message) → on-wire sender sequence m .version ≡ version-2
+unfolding increment-message form.clear-message
+on-wire-version sender sequence (increment q w p start) = refl
+on-wire-version sender sequence (clearing q ts) = refl
+
 pub on-wire-sender : (sender sequence : ℕ) (m : protocol.Message) → on-wire sender sequence m .sender ≡ sender
 unfolding increment-message form.clear-message
 on-wire-sender sender sequence (increment q w p start) = refl

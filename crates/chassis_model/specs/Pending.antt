@@ -9,7 +9,7 @@ use Rattle.protocol.specs.Checks.{Check, or-else, checked}
 use Rattle.protocol.specs.Limits.{bad-replica, bad-row, bad-sizes, bad-log}
 use Rattle.protocol.specs.Functions.{all-below}
 use Rattle.protocol.specs.RoundRobin.{Link, Transport, Progress, deliver-pending, total-waiting}
-use Rattle.wire.specs.Message.{message-at, reads}
+use Rattle.replica_model.specs.Format.{format-2}
 use Rattle.replica_model.specs.Calls.{in-place, row-well-formed}
 use Rattle.chassis_model.specs.Log.{waiting-part}
 use Rattle.chassis_model.specs.Run.{Step, State, state-of, N-at, replica-of, log-of, delivered, chassis-fits, deliver-kind}
@@ -17,7 +17,8 @@ pub use Rattle.chassis_model.specs.declared.Delivered.{Delivered}
 
 -- message number q of card s: "they read, the sender is the card, the sequences are 1, 2, .."
 unfoldable pub is-numbered : ℕ → ℕ → List ℕ → Bool
-is-numbered s q message = reads message && eqb (message-at message .sender) s && eqb (message-at message .sequence) q
+is-numbered s q message =
+    format-2 .reads message && eqb (format-2 .received message .sender) s && eqb (format-2 .received message .sequence) q
 
 -- whether card s's log begins so, N being n; where "its bytes do not begin with that card's messages numbered 1 to its own N", 15
 unfoldable pub begins-with : ℕ → ℕ → List ℕ → Bool
@@ -77,7 +78,7 @@ words-after-calls r k L (b ∷ bs) words logs = words-after-calls r k L bs (deli
 
 -- "The ledger counts each pumped delivery as a deliver step.": the deliveries as steps of a run
 abbrev pub pump-steps : List Link → List Step
-pump-steps ls = map (λ l. record { kind = deliver-kind; first = l .receiver; second = l .sender }) ls
+pump-steps ls = map (λ l. record { kind = deliver-kind; first = l .receiver; second = l .sender; amount = 0 }) ls
 
 -- those of all the calls, in order
 unfoldable pub steps-of-calls : ℕ → ℕ → ℕ → List ℕ → List ℕ → List ℕ → List Step

@@ -15,7 +15,7 @@ use Rattle.protocol.specs.Checks.{AllPass}
 use Rattle.protocol.specs.AcceptanceLaws.{below-facts, below-from}
 use Rattle.protocol.specs.RoundRobin.{IsLink, Orderly}
 use Rattle.protocol.specs.RoundRobinLaws.{by-link}
-use Rattle.wire.specs.Message.{message-at}
+use Rattle.wire.specs.Message.{version-2, message-at}
 use Rattle.replica_model.specs.Layout.{replica-length}
 use Rattle.replica_model.specs.Calls.{sizes-in-range, in-place, row-well-formed, take-on}
 use Rattle.replica_model.specs.ClaimTerms.{OnlyMoves}
@@ -100,7 +100,7 @@ module _ (r k L i s : ℕ) (st : State) (is : IsLink r i s) (g : Checked r k L s
     taken : take-on (replica-of r k L st i) bytes .answer .number ≡ 0
     taken = sym (ap (λ stepped. stepped .answer .number) one-tried) ∙ eqb-true (delivered r k L i s st .answer .number) 0 e
 
-    from-s : message-at bytes .sender ≡ s
+    from-s : message-at version-2 bytes .sender ≡ s
     unfolding is-numbered
     from-s = let h = simp tests at (g .numbered s (N-at r k L st i s) (is .1) (omega arith)) in h .0 .1
 
@@ -110,7 +110,7 @@ module _ (r k L i s : ℕ) (st : State) (is : IsLink r i s) (g : Checked r k L s
     replica-after : (j : ℕ) → replica-of r k L (delivered r k L i s st .state) j ≡ put i words (replica-of r k L st) j
     replica-after j = rw one-tried (part-put r (replica-length r k) i words (st .words) (g .words-fit) (is .0) fits j)
 
-    moves : OnlyMoves (replica-of r k L st i) s (content (message-at bytes)) words
+    moves : OnlyMoves (replica-of r k L st i) s (content (message-at version-2 bytes)) words
     unfolding message-at
     moves = rw from-s at (take-moves (replica-of r k L st i) bytes taken)
 

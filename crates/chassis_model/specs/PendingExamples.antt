@@ -9,17 +9,17 @@ use Rattle.protocol.specs.Entry.{incremented, cleared}
 use Rattle.protocol.specs.Chassis.{count-message, present-entries}
 use Rattle.protocol.specs.StoreLaws.{cleared-words, taken-words, shown}
 use Rattle.protocol.specs.Functions.{all-below}
-use Rattle.protocol.specs.Acceptance.{entry-well-formed, card-well-formed, all-entries, cards-known, increment-implausible, entry-plausible, plausible, tables-well-formed}
+use Rattle.protocol.specs.Acceptance.{entry-well-formed, card-well-formed, all-entries, cards-known, increment-plausible, entry-plausible, plausible, tables-well-formed}
 use Rattle.protocol.specs.RoundRobin.{tried, turn, senders, receivers, rounds, deliver-pending, total-waiting}
 use Rattle.wire.specs.Number.{number-at, bytes-of}
-use Rattle.wire.specs.Message.{header-bytes, increment-bytes, entries-bytes, clear-bytes, message-bytes, header-in-range, increment-in-range, clear-in-range, entries-in-range, unused, in-range, increment-message, clear-message, entries-at, called-length, message-at, reads, front-length}
+use Rattle.wire.specs.Message.{version-2, header-bytes, increment-bytes, entries-bytes, clear-bytes, message-bytes, header-in-range, increment-in-range, amount-in-range, clear-in-range, entries-in-range, unused, in-range, increment-message, clear-message, entries-at, called-length, message-at, reads, front-length}
 use Rattle.replica_model.specs.Layout.{fresh-words}
 use Rattle.replica_model.specs.Calls.{sizes-in-range, right, row-well-formed, count-on, replica-fits, send-with, words-after, take-with}
 use Rattle.replica_model.specs.Format.{content}
 use Rattle.chassis_model.specs.ListParts.{part, put-part}
 use Rattle.chassis_model.specs.Log.{waiting-part, end-of}
 use Rattle.chassis_model.specs.Run as run
-use Rattle.chassis_model.specs.Run.{action-of, call-of, State, state-of, delivered, acted, state-after, fresh-replicas, chassis-fits}
+use Rattle.chassis_model.specs.Run.{action-of, amount-fits, call-of, State, state-of, delivered, acted, state-after, fresh-replicas, chassis-fits}
 use Rattle.chassis_model.specs.Answers.{fresh-state}
 use Rattle.chassis_model.specs.Pending.{is-numbered, begins-with, log-right, all-waiting, DeliverOutcome, none-delivered, deliver-pending-on}
 use Rattle.chassis_model.specs.AloneExamples.{count}
@@ -30,21 +30,21 @@ done deliveries words = record { answer = record { number = 0; deliveries = deli
 -- ---- after a run: card 0 has counted twice, card 1 once, and nothing was delivered
 
 abbrev pub counted : State
-counted = state-after 2 1 72 (count 0 0 ∷ count 0 0 ∷ count 1 0 ∷ []) (fresh-state 2 1 72 (replicate (2 * 72) 0))
+counted = state-after 2 1 80 (count 0 0 ∷ count 0 0 ∷ count 1 0 ∷ []) (fresh-state 2 1 80 (replicate (2 * 80) 0))
 
 -- Each card's words: r, k, own | C | N | the entries of card 0 and card 1. First card 0 gets card 1's count, then card 1 card 0's first, and in the second round
 -- card 1 card 0's second.
 pub after-a-run :
     (counted .words ≡ (2 ∷ 1 ∷ 0 ∷ 2 ∷ 0 ∷ 2 ∷ 0 ∷ 2 ∷ 0 ∷ 2 ∷ 0 ∷ 0 ∷ 0 ∷ []) ++ (2 ∷ 1 ∷ 1 ∷ 0 ∷ 1 ∷ 0 ∷ 1 ∷ 0 ∷ 0 ∷ 0 ∷ 1 ∷ 0 ∷ 1 ∷ []))
-    × (all-waiting 2 1 72 counted ≡ 3)
-    × (deliver-pending-on 2 1 72 0 (counted .words) (counted .logs) ≡ done 0 (counted .words))
-    × (deliver-pending-on 2 1 72 1 (counted .words) (counted .logs)
+    × (all-waiting 2 1 80 counted ≡ 3)
+    × (deliver-pending-on 2 1 80 0 (counted .words) (counted .logs) ≡ done 0 (counted .words))
+    × (deliver-pending-on 2 1 80 1 (counted .words) (counted .logs)
     ≡ done 1 ((2 ∷ 1 ∷ 0 ∷ 2 ∷ 1 ∷ 2 ∷ 1 ∷ 2 ∷ 0 ∷ 2 ∷ 1 ∷ 0 ∷ 1 ∷ []) ++ (2 ∷ 1 ∷ 1 ∷ 0 ∷ 1 ∷ 0 ∷ 1 ∷ 0 ∷ 0 ∷ 0 ∷ 1 ∷ 0 ∷ 1 ∷ [])))
-    × (deliver-pending-on 2 1 72 2 (counted .words) (counted .logs)
+    × (deliver-pending-on 2 1 80 2 (counted .words) (counted .logs)
     ≡ done 2 ((2 ∷ 1 ∷ 0 ∷ 2 ∷ 1 ∷ 2 ∷ 1 ∷ 2 ∷ 0 ∷ 2 ∷ 1 ∷ 0 ∷ 1 ∷ []) ++ (2 ∷ 1 ∷ 1 ∷ 1 ∷ 1 ∷ 1 ∷ 1 ∷ 1 ∷ 0 ∷ 1 ∷ 1 ∷ 0 ∷ 1 ∷ [])))
-    × (deliver-pending-on 2 1 72 9 (counted .words) (counted .logs)
+    × (deliver-pending-on 2 1 80 9 (counted .words) (counted .logs)
     ≡ done 3 ((2 ∷ 1 ∷ 0 ∷ 2 ∷ 1 ∷ 2 ∷ 1 ∷ 2 ∷ 0 ∷ 2 ∷ 1 ∷ 0 ∷ 1 ∷ []) ++ (2 ∷ 1 ∷ 1 ∷ 2 ∷ 1 ∷ 2 ∷ 1 ∷ 2 ∷ 0 ∷ 2 ∷ 1 ∷ 0 ∷ 1 ∷ [])))
-unfolding put sum incremented cleared count-message present-entries cleared-words taken-words shown number-at bytes-of header-bytes increment-bytes message-bytes header-in-range increment-in-range entries-in-range unused in-range increment-message entries-at called-length message-at reads front-length fresh-words sizes-in-range right replica-fits all-below entry-well-formed card-well-formed row-well-formed tables-well-formed send-with words-after count-on content all-entries cards-known increment-implausible plausible take-with part put-part waiting-part end-of action-of call-of run.made delivered acted state-after fresh-replicas chassis-fits is-numbered begins-with log-right deliver-pending-on tried turn senders receivers rounds deliver-pending total-waiting
+unfolding put sum incremented cleared count-message present-entries cleared-words taken-words shown number-at bytes-of header-bytes increment-bytes message-bytes header-in-range increment-in-range amount-in-range entries-in-range unused in-range increment-message entries-at called-length message-at reads front-length fresh-words sizes-in-range right replica-fits all-below entry-well-formed card-well-formed row-well-formed tables-well-formed send-with words-after count-on content all-entries cards-known increment-plausible plausible take-with part put-part waiting-part end-of action-of amount-fits call-of run.made delivered acted state-after fresh-replicas chassis-fits is-numbered begins-with log-right deliver-pending-on tried turn senders receivers rounds deliver-pending total-waiting
 after-a-run = (refl, refl, refl, refl, refl, refl)
 
 -- ---- no run left these: card 0's first message clears counter 1, and there is none
@@ -54,7 +54,7 @@ abbrev pub odd-words : List ℕ
 odd-words = (2 ∷ 1 ∷ 0 ∷ 0 ∷ 0 ∷ 2 ∷ 0 ∷ replicate 6 0) ++ (2 ∷ 1 ∷ 1 ∷ 0 ∷ 0 ∷ 0 ∷ 1 ∷ replicate 6 0)
 
 abbrev pub odd-logs : List ℕ
-odd-logs = message-bytes (clear-message 0 1 1 []) ++ message-bytes (clear-message 0 2 0 []) ++ message-bytes (clear-message 1 1 0 []) ++ replicate 28 7
+odd-logs = message-bytes (clear-message version-2 0 1 1 []) ++ message-bytes (clear-message version-2 0 2 0 []) ++ message-bytes (clear-message version-2 1 1 0 []) ++ replicate 28 7
 
 pub passed-over :
     (all-waiting 2 1 56 (state-of odd-words odd-logs) ≡ 3)
@@ -76,10 +76,11 @@ pub refusals :
     -- 2: the row of card 1's replica has (0, 1, 0); card 0's N is above what it has made besides
     × (deliver-pending-on 2 1 56 9 (set odd-words 21 1) odd-logs ≡ none-delivered (set odd-words 21 1) 2)
     × (deliver-pending-on 2 1 56 9 (set (set odd-words 21 1) 5 3) odd-logs ≡ none-delivered (set (set odd-words 21 1) 5 3) 2)
-    -- 15: card 0 has made three, its log has two; card 1 has had three of its two; its second has sequence 3; its first is of card 1
+    -- 15: card 0 has made three, its log has two; card 1 has had three of its two; its second has sequence 3; its first is of card 1; its first is of version 1
     × (deliver-pending-on 2 1 56 9 (set odd-words 5 3) odd-logs ≡ none-delivered (set odd-words 5 3) 15)
     × (deliver-pending-on 2 1 56 9 (set odd-words 18 3) odd-logs ≡ none-delivered (set odd-words 18 3) 15)
     × (deliver-pending-on 2 1 56 9 odd-words (set odd-logs 47 3) ≡ none-delivered odd-words 15)
     × (deliver-pending-on 2 1 56 9 odd-words (set odd-logs 11 1) ≡ none-delivered odd-words 15)
+    × (deliver-pending-on 2 1 56 9 odd-words (set odd-logs 3 1) ≡ none-delivered odd-words 15)
 unfolding number-at bytes-of header-bytes entries-bytes clear-bytes message-bytes header-in-range clear-in-range entries-in-range unused in-range increment-message entries-at called-length message-at reads front-length clear-message sizes-in-range all-below entry-well-formed card-well-formed row-well-formed tables-well-formed part waiting-part chassis-fits is-numbered begins-with log-right deliver-pending-on
-refusals = (refl, refl, refl, refl, refl, refl, refl, refl, refl, refl)
+refusals = (refl, refl, refl, refl, refl, refl, refl, refl, refl, refl, refl)

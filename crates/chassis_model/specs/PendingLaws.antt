@@ -27,7 +27,7 @@ use Rattle.replica_model.specs.Calls.{read-on}
 use Rattle.replica_model.specs.RowLaws.{tests, row-from}
 use Rattle.chassis_model.specs.ListParts.{part}
 use Rattle.chassis_model.specs.Log.{waiting-part}
-use Rattle.chassis_model.specs.Run.{Step, Deliver, action-of, State, state-of, N-at, delivered, step-on, state-after, answer-words, answer-length, answers-of, sizes-right, RunOutcome, run-on, deliver-kind}
+use Rattle.chassis_model.specs.Run.{Step, Deliver, action-of, amount-fits, State, state-of, N-at, delivered, step-on, state-after, answer-words, answer-length, answers-of, sizes-right, RunOutcome, run-on, deliver-kind}
 use Rattle.chassis_model.specs.Ledger.{ledger-of, ledger-reading}
 use Rattle.chassis_model.specs.Answers.{fresh-state}
 use Rattle.chassis_model.specs.InStep.{reached-N, reached-row, received-few, own-N}
@@ -71,9 +71,9 @@ module _ (r k L : ℕ) where
 
   -- as steps
   link-step : (i s : ℕ) (st : State) → IsLink r i s → 0 < N-at r k L st s s - N-at r k L st i s
-      → step-on r k L (record { kind = deliver-kind; first = i; second = s }) st ≡ delivered r k L i s st
-  unfolding action-of
-  link-step i s st is waits = performed-is r k L st (Deliver i s) (link-passes r k L st i s is (omega arith))
+      → step-on r k L (record { kind = deliver-kind; first = i; second = s; amount = 0 }) st ≡ delivered r k L i s st
+  unfolding action-of amount-fits
+  link-step i s st is waits = performed-is r k L st (Deliver i s) true (link-passes r k L st i s true refl is (omega arith))
 
   replayed-steps : (ls : List Link) (st : State) → AllDeliver (state-links r k L) r ls st
       → replayed (state-links r k L) ls st ≡ state-after r k L (pump-steps ls) st

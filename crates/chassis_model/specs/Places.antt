@@ -11,7 +11,7 @@ use Rattle.protocol.specs.Cases.{by-place}
 use Rattle.protocol.specs.Ledger.{Ledger}
 use Rattle.protocol.specs.Chassis.{Chassis}
 use Rattle.wire.specs.declared.Message as wire
-use Rattle.wire.specs.Message.{clear-length, called-length}
+use Rattle.wire.specs.Message.{version-2, clear-length, called-length}
 use Rattle.replica_model.specs.Calls.{not-sent, ClearedOutcome, with-value}
 use Rattle.replica_model.specs.FormatLaws.{on-wire-size}
 use Rattle.chassis_model.specs.Log.{waiting-part, end-of}
@@ -72,9 +72,9 @@ pub record Reached (r k L : ℕ) (st : State) (places : List ℕ) : Type 0 where
 pub record WaitsAt (L : ℕ) (log : List ℕ) (n place : ℕ) : Type 0 where
   pub inside : place ≤ L
   pub header : clear-length 0 ≤ length (drop place log)
-  pub room : called-length (drop place log) ≤ length (drop place log)
-  pub within : place + called-length (drop place log) ≤ L
-  pub waits : waiting-part (suc n) log ≡ take (called-length (drop place log)) (drop place log)
+  pub room : called-length version-2 (drop place log) ≤ length (drop place log)
+  pub within : place + called-length version-2 (drop place log) ≤ L
+  pub waits : waiting-part (suc n) log ≡ take (called-length version-2 (drop place log)) (drop place log)
 
 waits-from : (L : ℕ) (log : List ℕ) (n : ℕ) (x : wire.Message) → length log ≡ L → Stands log n x → WaitsAt L log n (end-of n log)
 waits-from L log n x long stands =
@@ -126,9 +126,9 @@ module _ (r k L : ℕ) (st : State) (places : List ℕ) (h : Reached r k L st pl
     places-made m q =
         call-cases (run-cards now) m i q hi PlacesAfter (drop (free-from r k L st i) (log-of r k L st i))
         (λ n _ _. places-declined n)
-        (λ _ hq goes fits.
+        (λ _ may goes fits.
         let x = next-message r (h .chassis) m i q in
-        let room = rw (← (size-is (run-cards now) m i q hi hq (goes .few))) at fits in
+        let room = rw (← (size-is (run-cards now) m i q hi may)) at fits in
         rw (← (on-wire-size i (N-at r k L st i i + 1) x))
         (places-move r (ends-in r k L st) (ends-in r k L (state-made now i x)) places i i _ (h .matches .cards .sizes .few-cards) hi hi (h .places-are)
         (end-made now i hi x goes room)
@@ -150,7 +150,7 @@ module _ (r k L : ℕ) (st : State) (places : List ℕ) (h : Reached r k L st pl
 
   pub delivered-reached : (i s : ℕ) → i < r → s < r → (i ≡ s → ⊥) → N-at r k L st i s < N-at r k L st s s
       → Reached r k L (delivered r k L i s st .state)
-      (set places (link-place i s) (getD places (link-place i s) 0 + called-length (drop (getD places (link-place i s) 0) (log-of r k L st s))))
+      (set places (link-place i s) (getD places (link-place i s) 0 + called-length version-2 (drop (getD places (link-place i s) 0) (log-of r k L st s))))
   delivered-reached i s hi hs apart waits = record {
     chassis = _;
     ledgers = _;

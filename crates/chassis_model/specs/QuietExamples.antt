@@ -14,10 +14,10 @@ use Rattle.protocol.specs.Quiet.{EqualSets, StillToReceive, CancelledAhead}
 use Rattle.protocol.specs.Chassis.{count-message, present-entries, clear-message, read-value, read-holders}
 use Rattle.protocol.specs.StoreLaws.{cleared-words, taken-words, shown}
 use Rattle.protocol.specs.Functions.{all-below, count-below}
-use Rattle.protocol.specs.Acceptance.{entry-well-formed, card-well-formed, all-entries, cards-known, increment-implausible, entry-plausible, plausible, tables-well-formed}
+use Rattle.protocol.specs.Acceptance.{entry-well-formed, card-well-formed, all-entries, cards-known, increment-plausible, entry-plausible, plausible, tables-well-formed}
 use Rattle.wire.specs.Number.{number-at, bytes-of}
 use Rattle.wire.specs.Message as form
-use Rattle.wire.specs.Message.{header-bytes, increment-bytes, entry-bytes, entries-bytes, clear-bytes, message-bytes, header-in-range, increment-in-range, clear-in-range, entry-in-range, entries-in-range, unused, in-range, increment-message, entries-at, called-length, message-at, reads, front-length}
+use Rattle.wire.specs.Message.{header-bytes, increment-bytes, entry-bytes, entries-bytes, clear-bytes, message-bytes, header-in-range, increment-in-range, amount-in-range, clear-in-range, entry-in-range, entries-in-range, unused, in-range, increment-message, entries-at, called-length, message-at, reads, front-length}
 use Rattle.replica_model.specs.Layout.{fresh-words}
 use Rattle.replica_model.specs.declared.Reading.{Reading}
 use Rattle.replica_model.specs.Calls.{sizes-in-range, right, row-well-formed, reading, is-quiet, read-on, count-on, clear-on, replica-fits, send-with, words-after, take-with}
@@ -25,14 +25,14 @@ use Rattle.replica_model.specs.Format.{content}
 use Rattle.chassis_model.specs.ListParts.{part, put-part}
 use Rattle.chassis_model.specs.Log.{waiting-part, end-of}
 use Rattle.chassis_model.specs.Run as run
-use Rattle.chassis_model.specs.Run.{Step, action-of, call-of, State, replica-of, delivered, acted, state-after, answers-of, numbers-in, fresh-replicas}
+use Rattle.chassis_model.specs.Run.{Step, action-of, amount-fits, call-of, State, replica-of, delivered, acted, state-after, answers-of, numbers-in, fresh-replicas}
 use Rattle.chassis_model.specs.Ledger.{ledger-action, ledger-of}
 use Rattle.chassis_model.specs.Answers.{fresh-state}
 use Rattle.chassis_model.specs.AloneExamples.{count, clear, deliver}
 
--- the longest log takes 84 bytes
+-- the longest log takes 88 bytes
 abbrev L : ℕ
-L = 84
+L = 88
 
 abbrev begins : State
 begins = fresh-state 3 1 L (replicate (3 * L) 0)
@@ -47,7 +47,7 @@ ledger steps = ledger-of 3 0 steps (answers-of 3 1 L steps begins)
 abbrev read-of : ℕ → ℕ → ℕ → Reading
 read-of value holders count = record { number = 0; value = value; holders = holders; «holder_count» = count }
 
--- "r = 3: (1,0,0) (3,1,0) (2,1,0) (3,2,1)": card 1 clears card 0's count, and the clear comes to card 2 first
+-- "r = 3: (1,0,0,1) (3,1,0,0) (2,1,0,0) (3,2,1,0)": card 1 clears card 0's count, and the clear comes to card 2 first
 abbrev pub overtaken : List Step
 overtaken = count 0 0 ∷ deliver 1 0 ∷ clear 1 0 ∷ deliver 2 1 ∷ []
 
@@ -72,7 +72,7 @@ pub what-is-read :
     × (read-there arrived ≡ read-of 0 0 0) × (is-quiet (read-there arrived) ≡ true)
     -- one received, another cancelled: not quiet
     × (read-there as-many ≡ read-of 1 3 2) × (is-quiet (read-there as-many) ≡ false)
-unfolding put sum bits incremented cleared has insert join names-after any latest beyond applied sent made next-item rest-items handed count-item holds clear-names after-accepted after-step after-steps count-message present-entries clear-message read-value read-holders cleared-words taken-words shown number-at bytes-of header-bytes increment-bytes entry-bytes entries-bytes clear-bytes message-bytes header-in-range increment-in-range clear-in-range entry-in-range entries-in-range unused in-range increment-message entries-at called-length message-at reads front-length form.clear-message fresh-words sizes-in-range right replica-fits all-below count-below entry-well-formed card-well-formed row-well-formed tables-well-formed reading read-on send-with words-after count-on clear-on content all-entries cards-known increment-implausible entry-plausible plausible take-with part put-part waiting-part end-of action-of call-of run.made delivered acted state-after answers-of numbers-in fresh-replicas ledger-action ledger-of
+unfolding put sum bits incremented cleared has insert join names-after any latest beyond applied sent made next-item rest-items handed count-item holds clear-names after-accepted after-step after-steps count-message present-entries clear-message read-value read-holders cleared-words taken-words shown number-at bytes-of header-bytes increment-bytes entry-bytes entries-bytes clear-bytes message-bytes header-in-range increment-in-range amount-in-range clear-in-range entry-in-range entries-in-range unused in-range increment-message entries-at called-length message-at reads front-length form.clear-message fresh-words sizes-in-range right replica-fits all-below count-below entry-well-formed card-well-formed row-well-formed tables-well-formed reading read-on send-with words-after count-on clear-on content all-entries cards-known increment-plausible entry-plausible plausible take-with part put-part waiting-part end-of action-of amount-fits call-of run.made delivered acted state-after answers-of numbers-in fresh-replicas ledger-action ledger-of
 what-is-read = (refl, refl, refl, refl, refl, refl, refl, refl, refl, refl)
 
 pub what-the-sets-are :
@@ -81,7 +81,7 @@ pub what-the-sets-are :
     × (ledger arrived .received 2 ≡ name 0 1 ∷ []) × (ledger arrived .cancelled 2 ≡ name 0 1 ∷ []) × EqualSets 2 (ledger arrived)
     -- as many names in one set as in the other, and the sets are not equal
     × (ledger as-many .received 2 ≡ name 1 1 ∷ []) × (ledger as-many .cancelled 2 ≡ name 0 1 ∷ []) × (EqualSets 2 (ledger as-many) → ⊥)
-unfolding put sum bits incremented cleared has insert join names-after any latest beyond applied sent made next-item rest-items handed count-item holds clear-names after-accepted after-step after-steps count-message present-entries clear-message read-value read-holders cleared-words taken-words shown number-at bytes-of header-bytes increment-bytes entry-bytes entries-bytes clear-bytes message-bytes header-in-range increment-in-range clear-in-range entry-in-range entries-in-range unused in-range increment-message entries-at called-length message-at reads front-length form.clear-message fresh-words sizes-in-range right replica-fits all-below count-below entry-well-formed card-well-formed row-well-formed tables-well-formed reading read-on send-with words-after count-on clear-on content all-entries cards-known increment-implausible entry-plausible plausible take-with part put-part waiting-part end-of action-of call-of run.made delivered acted state-after answers-of numbers-in fresh-replicas ledger-action ledger-of
+unfolding put sum bits incremented cleared has insert join names-after any latest beyond applied sent made next-item rest-items handed count-item holds clear-names after-accepted after-step after-steps count-message present-entries clear-message read-value read-holders cleared-words taken-words shown number-at bytes-of header-bytes increment-bytes entry-bytes entries-bytes clear-bytes message-bytes header-in-range increment-in-range amount-in-range clear-in-range entry-in-range entries-in-range unused in-range increment-message entries-at called-length message-at reads front-length form.clear-message fresh-words sizes-in-range right replica-fits all-below count-below entry-well-formed card-well-formed row-well-formed tables-well-formed reading read-on send-with words-after count-on clear-on content all-entries cards-known increment-plausible entry-plausible plausible take-with part put-part waiting-part end-of action-of amount-fits call-of run.made delivered acted state-after answers-of numbers-in fresh-replicas ledger-action ledger-of
 what-the-sets-are = (
   record { sender = 0; another = λ e. omega arith; on-link = inl refl },
   λ n. (λ h. h, λ h. h),

@@ -20,7 +20,7 @@ use Rattle.replica_model.specs.declared.Reading.{Reading}
 use Rattle.replica_model.specs.Calls.{sizes-in-range, read-on}
 use Rattle.replica_model.specs.RowLaws.{sizes}
 use Rattle.chassis_model.specs.ListParts.{part}
-use Rattle.chassis_model.specs.Run.{Count, Clear, ReadAndClear, Action, Make, Deliver, Nothing, Step, action-of, step-on, answers-of, numbers-in, values-in, sizes-right, run-on}
+use Rattle.chassis_model.specs.Run.{Count, Clear, ReadAndClear, Action, Make, Deliver, Nothing, Step, action-of, amount-fits, step-on, answers-of, numbers-in, values-in, sizes-right, run-on}
 use Rattle.chassis_model.specs.Ledger.{ledger-action, ledger-step, was-accepted, accepted-of, ledger-of, ledger-reading}
 use Rattle.chassis_model.specs.Answers.{value-asked}
 use Rattle.chassis_model.specs.Driver.{Call, make, take, opened, number-of, value-of, Genuine, numbers, values, cards-after, GenuineHistory, call-step, history-ledger}
@@ -43,7 +43,7 @@ use Rattle.chassis_model.specs.DriverTheorem.{theory-history}
 module _ (h q : ℕ) where
   only-cleared : (a : Action) → ClearsByReading h q a → ClearedBy h q (ledger-action a)
   unfolding ledger-action
-  only-cleared (Make Count i c) only = tt
+  only-cleared (Make (Count w) i c) only = tt
   only-cleared (Make Clear i c) only = λ e. absurd (only e)
   only-cleared (Make ReadAndClear i c) only = only
   only-cleared (Deliver i s) only = tt
@@ -52,7 +52,7 @@ module _ (h q : ℕ) where
   -- to the theory it is a clear of q by h exactly if it is a read and clear of q by h
   same-clear : (a : Action) → ClearsByReading h q a → is-read-and-clear h q a ≡ is-clear h q (ledger-action a)
   unfolding ledger-action is-read-and-clear is-clear
-  same-clear (Make Count i c) only = refl
+  same-clear (Make (Count w) i c) only = refl
   same-clear (Make Clear i c) only = rw (ne-eqb c q only, and-no-right (eqb i h) false refl)
   same-clear (Make ReadAndClear i c) only = refl
   same-clear (Deliver i s) only = refl
@@ -60,7 +60,7 @@ module _ (h q : ℕ) where
 
   value-there : (a : Action) (f : ℕ → ℕ → ℕ) → is-read-and-clear h q a ≡ true → value-asked a f ≡ f h q
   unfolding is-read-and-clear value-asked
-  value-there (Make Count i c) f e = cc
+  value-there (Make (Count w) i c) f e = cc
   value-there (Make Clear i c) f e = cc
   value-there (Make ReadAndClear i c) f e = rw (eqb-true i h (and-left (eqb i h) (eqb c q) e), eqb-true c q (and-right (eqb i h) (eqb c q) e))
   value-there (Deliver i s) f e = cc
@@ -100,7 +100,7 @@ run-sum h q [] now only = refl
 run-sum {r} {k} {L} h q (s ∷ ss) now (only, rest) =
     let here = step-matches now s in
     let answer = step-on r k L s (now .state) .answer in
-    ap₂ _+_ (adds h q (run-cards now) (action-of s) (answer .number) (answer .value) (here .1) only (accepted-value now 0 (action-of s)))
+    ap₂ _+_ (adds h q (run-cards now) (action-of s) (answer .number) (answer .value) (here .1) only (accepted-value now 0 (action-of s) (amount-fits s)))
     (run-sum h q ss (run-at (here .0)) rest)
 
 call-is : (c : Call) → call-step c ≡ ledger-action (call-action c)

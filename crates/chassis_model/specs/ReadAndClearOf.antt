@@ -6,7 +6,7 @@ use mathlib.Core.Bool.{Bool, false, cond, _&&_}
 use mathlib.Core.List.{List, [], _∷_}
 use lib.Dec.{eqb}
 use Rattle.protocol.specs.OneClears.{is-clear}
-use Rattle.wire.specs.Message.{message-at}
+use Rattle.wire.specs.Message.{version-2, message-at}
 use Rattle.replica_model.specs.Calls.{read-on}
 use Rattle.chassis_model.specs.Run.{Count, Clear, ReadAndClear, Action, Make, Deliver, Nothing}
 use Rattle.chassis_model.specs.Ledger.{was-accepted}
@@ -15,12 +15,12 @@ use Rattle.chassis_model.specs.Driver.{Call, make, take, Cards, called, 
 -- what a driver's call asks for: a take is a delivery from the sender that the bytes name
 abbrev pub call-action : Call → Action
 call-action (make m i q out) = Make m i q
-call-action (take i bytes) = Deliver i (message-at bytes .sender)
+call-action (take i bytes) = Deliver i (message-at version-2 bytes .sender)
 
 -- ---- "each accepted step that clears q is a read and clear, by card h"
 
 abbrev pub ClearsByReading : ℕ → ℕ → Action → Type 0
-ClearsByReading h q (Make Count i c) = Unit {0}
+ClearsByReading h q (Make (Count w) i c) = Unit {0}
 ClearsByReading h q (Make Clear i c) = c ≡ q → ⊥
 ClearsByReading h q (Make ReadAndClear i c) = c ≡ q → i ≡ h
 ClearsByReading h q (Deliver i s) = Unit {0}
@@ -35,7 +35,7 @@ OnlyReadAndClears h q (a ∷ rest) (n ∷ ns) = (n ≡ 0 → ClearsByReading h q
 -- ---- "the sum of the values that card h's accepted read and clears of q have answered"
 
 unfoldable pub is-read-and-clear : ℕ → ℕ → Action → Bool
-is-read-and-clear h q (Make Count i c) = false
+is-read-and-clear h q (Make (Count w) i c) = false
 is-read-and-clear h q (Make Clear i c) = false
 is-read-and-clear h q (Make ReadAndClear i c) = eqb i h && eqb c q
 is-read-and-clear h q (Deliver i s) = false

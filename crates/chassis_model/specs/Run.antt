@@ -1,14 +1,14 @@
 -- DEFINITIONS. A run of steps over r replicas and r logs (SPECIFICATION 6): the answer of every step, and the words and log bytes it leaves.
 use Prim.Native.Nat.{ℕ, zero, suc, _+_, _*_, _/_, _%_, _^_, _<_}
 use mathlib.Core.List.{List, [], _∷_, _++_}
-use mathlib.Core.Bool.{Bool, false, not, cond, _&&_}
+use mathlib.Core.Bool.{Bool, true, false, not, cond, _&&_, _||_}
 use lib.ListN.{length, take, drop}
 use lib.Dec.{ltb, eqb}
 use Rattle.protocol.specs.Checks.{Check, or-else, checked}
-use Rattle.protocol.specs.Limits.{short-output, bad-card, bad-sizes, bad-kind, nothing-waiting, log-full}
+use Rattle.protocol.specs.Limits.{short-output, bad-card, bad-counter, bad-sizes, bad-kind, nothing-waiting, log-full, bad-amount}
 use Rattle.wire.specs.Number.{int-at, unsigned-int}
-use Rattle.replica_model.specs.Layout.{replica-length, N-of, fresh-words}
-use Rattle.replica_model.specs.Calls.{sizes-in-range, count-on, clear-on, ClearedOutcome, with-value, read-and-clear-on, take-on}
+use Rattle.replica_model.specs.Layout.{replica-length, C-of, N-of, fresh-words}
+use Rattle.replica_model.specs.Calls.{sizes-in-range, is-amount, count-on, clear-on, ClearedOutcome, with-value, read-and-clear-on, take-on}
 use Rattle.chassis_model.specs.ListParts.{part, put-part}
 use Rattle.chassis_model.specs.Log.{waiting-part, end-of}
 pub use Rattle.chassis_model.specs.declared.Step.{Step}
@@ -34,14 +34,29 @@ read-and-clear-kind = 4
 -- what a step asks for: the one place where its numbers are looked at
 unfoldable pub action-of : Step → Action
 action-of s =
-    cond (eqb (s .kind) count-kind) (Make Count (s .first) (s .second))
+    cond (eqb (s .kind) count-kind) (Make (Count (s .amount)) (s .first) (s .second))
     (cond (eqb (s .kind) clear-kind) (Make Clear (s .first) (s .second))
     (cond (eqb (s .kind) deliver-kind) (Deliver (s .first) (s .second))
     (cond (eqb (s .kind) read-and-clear-kind) (Make ReadAndClear (s .first) (s .second)) Nothing)))
 
+-- "A count has its amount, 1 to 65,535; the others have 0.": whether the step is one that counts or has none
+unfoldable pub amount-fits : Step → Bool
+amount-fits s = eqb (s .kind) count-kind || eqb (s .amount) 0
+
+-- what a making counts, and whether that is an amount
+unfoldable pub counted : Making → ℕ
+counted (Count w) = w
+counted Clear = 0
+counted ReadAndClear = 0
+
+unfoldable pub asked : Making → Bool
+asked (Count w) = is-amount w
+asked Clear = true
+asked ReadAndClear = true
+
 -- the call that makes a message on counter q, with the value that it reads: 0 for a count and a clear
 unfoldable pub call-of : Making → ℕ → List ℕ → List ℕ → ClearedOutcome
-call-of Count q b out = with-value 0 (count-on b q out)
+call-of (Count w) q b out = with-value 0 (count-on b q w out)
 call-of Clear q b out = with-value 0 (clear-on b q out)
 call-of ReadAndClear q b out = read-and-clear-on b q out
 
@@ -100,6 +115,10 @@ module _ (r k L : ℕ) where
   abbrev pub N-at : State → ℕ → ℕ → ℕ
   N-at st i j = N-of r (replica-of st i) j
 
+  -- C of card i in its own replica
+  abbrev pub C-at : State → ℕ → ℕ
+  C-at st i = C-of (replica-of st i) i
+
   -- "A message made is appended to its card's L bytes, right after that card's earlier ones": where the next message of card i goes
   abbrev pub free-from : State → ℕ → ℕ
   free-from st i = end-of (N-at st i i) (log-of st i)
@@ -126,12 +145,14 @@ module _ (r k L : ℕ) where
         state = record { words = put-part (replica-length r k) i (done .words) (st .words); logs = st .logs };
       }
 
-  -- "Run steps: 12, 7 (any card named not below r), 3 (not for deliver), 4, 14, 13": the step's own checks. 3, 4 and 14 are those of the call that makes
-  -- the message. "the same card twice is 7"; "One waits exactly when the sender's own N is above the receiver's N of that sender"
-  abbrev pub step-checks : Action → State → List Check
-  step-checks (Make m i q) st = or-else (ltb i r) bad-card ∷ []
-  step-checks (Deliver i s) st = or-else (ltb i r && ltb s r && not (eqb i s)) bad-card ∷ or-else (ltb (N-at st i s) (N-at st s s)) nothing-waiting ∷ []
-  step-checks Nothing st = or-else false bad-kind ∷ []
+  -- "Run steps: 12, 7 (any card named not below r), 3 (not for deliver), 16, 4, 14, 13": the step's own checks, where `fits` says that the step counts or has no
+  -- amount. 4 and 14 are those of the call that makes the message, and so is 16 for the amount of a count, which the call too asks right after 3.
+  -- "the same card twice is 7"; "One waits exactly when the sender's own N is above the receiver's N of that sender"
+  abbrev pub step-checks : Action → Bool → State → List Check
+  step-checks (Make m i q) fits st = or-else (ltb i r) bad-card ∷ or-else (ltb q k) bad-counter ∷ or-else fits bad-amount ∷ []
+  step-checks (Deliver i s) fits st =
+      or-else (ltb i r && ltb s r && not (eqb i s)) bad-card ∷ or-else fits bad-amount ∷ or-else (ltb (N-at st i s) (N-at st s s)) nothing-waiting ∷ []
+  step-checks Nothing fits st = or-else false bad-kind ∷ []
 
   -- what a step does whose own checks pass
   abbrev pub performed : Action → State → Stepped
@@ -139,11 +160,11 @@ module _ (r k L : ℕ) where
   performed (Deliver i s) st = delivered i s st
   performed Nothing st = declined st bad-kind
 
-  unfoldable pub acted : Action → State → Stepped
-  acted a st = checked (declined st) (step-checks a st) (performed a st)
+  unfoldable pub acted : Action → Bool → State → Stepped
+  acted a fits st = checked (declined st) (step-checks a fits st) (performed a st)
 
   abbrev pub step-on : Step → State → Stepped
-  step-on s st = acted (action-of s) st
+  step-on s st = acted (action-of s) (amount-fits s) st
 
   unfoldable pub state-after : List Step → State → State
   state-after [] st = st
@@ -180,31 +201,32 @@ run-on r k L steps words logs answers =
       answers = answers-of r k L steps fresh;
     })
 
--- ---- steps as bytes: "as bytes, three unsigned ints each"
+-- ---- steps as bytes: "as bytes, four unsigned ints each"
 
 -- how many bytes a step takes
 abbrev pub step-length : ℕ
-step-length = 12
+step-length = 16
 
 unfoldable pub step-bytes : Step → List ℕ
-step-bytes s = unsigned-int (s .kind) ++ unsigned-int (s .first) ++ unsigned-int (s .second)
+step-bytes s = unsigned-int (s .kind) ++ unsigned-int (s .first) ++ unsigned-int (s .second) ++ unsigned-int (s .amount)
 
 unfoldable pub steps-bytes : List Step → List ℕ
 steps-bytes [] = []
 steps-bytes (s ∷ ss) = step-bytes s ++ steps-bytes ss
 
--- "Steps of three 32-bit numbers"
+-- "Steps of four 32-bit numbers"
 pub record StepFits (s : Step) : Type 0 where
   pub kind : s .kind < 2 ^ 32
   pub first : s .first < 2 ^ 32
   pub second : s .second < 2 ^ 32
+  pub amount : s .amount < 2 ^ 32
 
 abbrev pub AllFit : List Step → Type 0
 AllFit [] = Unit {0}
 AllFit (s ∷ ss) = StepFits s × AllFit ss
 
 abbrev pub step-at : List ℕ → ℕ → Step
-step-at bytes at = record { kind = int-at bytes at; first = int-at bytes (at + 4); second = int-at bytes (at + 8) }
+step-at bytes at = record { kind = int-at bytes at; first = int-at bytes (at + 4); second = int-at bytes (at + 8); amount = int-at bytes (at + 12) }
 
 -- `count` steps, from byte `at` on
 unfoldable pub steps-at : ℕ → List ℕ → ℕ → List Step
@@ -214,7 +236,7 @@ steps-at (suc count) bytes at = step-at bytes at ∷ steps-at count bytes (at + 
 abbrev pub steps-of : List ℕ → List Step
 steps-of bytes = steps-at (length bytes / step-length) bytes 0
 
--- "byte steps not a multiple of 12 long give 11"
+-- "byte steps not a multiple of 16 long give 11"
 unfoldable pub run-bytes-on : ℕ → ℕ → ℕ → List ℕ → List ℕ → List ℕ → List ℕ → RunOutcome
 run-bytes-on r k L bytes words logs answers =
     checked (λ n. record { number = n; words = words; logs = logs; answers = answers }) (or-else (eqb (length bytes % step-length) 0) bad-sizes ∷ [])

@@ -7,20 +7,20 @@ use lib.ListN.{length, take, drop, length-drop, length-take}
 use lib.Seq.{take-length, length-take-le, drop-drop}
 use borrow.Author.Tests.{eq-eqb, ne-eqb}
 use Rattle.protocol.specs.Cases.{by-place}
-use Rattle.wire.specs.Message.{front-length}
+use Rattle.wire.specs.Message.{version-2, front-length}
 use Rattle.chassis_model.specs.Log.{waiting-part, end-of, waiting-span}
 use Rattle.chassis_model.specs.Ends.{front-within, ends-within}
 
 -- the message behind the first n
 part-behind : (n : ℕ) (log : List ℕ) → take (length (waiting-part (suc n) log)) (drop (end-of n log) log) ≡ waiting-part (suc n) log
 unfolding waiting-part end-of
-part-behind zero log = rw (length-take-le (front-length log) log (front-within log))
+part-behind zero log = rw (length-take-le (front-length version-2 log) log (front-within log))
 part-behind (suc n) log =
-    by-place (front-length log) 0
-    (λ e. rw (eq-eqb (front-length log) 0 e))
+    by-place (front-length version-2 log) 0
+    (λ e. rw (eq-eqb (front-length version-2 log) 0 e))
     (λ d.
-    rw (ne-eqb (front-length log) 0 d, ← (drop-drop (end-of n (drop (front-length log) log)) (front-length log) log))
-    (part-behind n (drop (front-length log) log)))
+    rw (ne-eqb (front-length version-2 log) 0 d, ← (drop-drop (end-of n (drop (front-length version-2 log) log)) (front-length version-2 log) log))
+    (part-behind n (drop (front-length version-2 log) log)))
 
 -- message number q, where there is one
 part-from : (q : ℕ) (log : List ℕ) → take (length (waiting-part q log)) (drop (end-of (q - 1) log) log) ≡ waiting-part q log

@@ -29,12 +29,20 @@ steps-bytes-length (s ∷ ss) = length-append (step-bytes s) (steps-bytes ss) �
 step-read : (s : Step) (rest : List ℕ) → StepFits s → step-at (step-bytes s ++ rest) 0 ≡ s
 unfolding step-bytes bytes-of number-at
 step-read s rest fits =
-    rw (number-at-bytes-of 4 (s .kind) (fits .kind), number-at-bytes-of 4 (s .first) (fits .first), number-at-bytes-of 4 (s .second) (fits .second))
+    rw (number-at-bytes-of 4 (s .kind) (fits .kind), number-at-bytes-of 4 (s .first) (fits .first), number-at-bytes-of 4 (s .second) (fits .second), number-at-bytes-of 4 (s .amount) (fits .amount))
 
 -- bytes before the steps are passed
 step-at-right : (xs ys : List ℕ) (at : ℕ) → step-at (xs ++ ys) (length xs + at) ≡ step-at ys at
 step-at-right xs ys at =
-    rw (number-at-right 4 xs ys at, add-assoc (length xs) at 4, number-at-right 4 xs ys (at + 4), add-assoc (length xs) at 8, number-at-right 4 xs ys (at + 8))
+    rw (
+      number-at-right 4 xs ys at,
+      add-assoc (length xs) at 4,
+      number-at-right 4 xs ys (at + 4),
+      add-assoc (length xs) at 8,
+      number-at-right 4 xs ys (at + 8),
+      add-assoc (length xs) at 12,
+      number-at-right 4 xs ys (at + 12),
+    )
 
 steps-at-right : (n : ℕ) (xs ys : List ℕ) (at : ℕ) → steps-at n (xs ++ ys) (length xs + at) ≡ steps-at n ys at
 unfolding steps-at
@@ -64,8 +72,13 @@ same-run r k L steps words logs answers fit =
 step-written : (bytes : List ℕ) (at : ℕ) → Bytes bytes → at + step-length ≤ length bytes → step-bytes (step-at bytes at) ≡ take step-length (drop at bytes)
 unfolding step-bytes
 step-written bytes at small room =
-    rw (bytes-of-number-at 4 bytes at small (omega arith), bytes-of-number-at 4 bytes (at + 4) small (omega arith), bytes-of-number-at 4 bytes (at + 8) small (omega arith))
-    (rw (parts-join bytes at 4 4, parts-join bytes at 8 4))
+    rw (
+      bytes-of-number-at 4 bytes at small (omega arith),
+      bytes-of-number-at 4 bytes (at + 4) small (omega arith),
+      bytes-of-number-at 4 bytes (at + 8) small (omega arith),
+      bytes-of-number-at 4 bytes (at + 12) small (omega arith),
+    )
+    (rw (parts-join bytes at 4 4, parts-join bytes at 8 4, parts-join bytes at 12 4))
 
 steps-written : (n : ℕ) (bytes : List ℕ) (at : ℕ) → Bytes bytes → at + step-length * n ≤ length bytes
     → steps-bytes (steps-at n bytes at) ≡ take (step-length * n) (drop at bytes)
@@ -83,6 +96,7 @@ steps-fit (suc n) bytes at small = (
     kind = number-at-below 4 bytes at small;
     first = number-at-below 4 bytes (at + 4) small;
     second = number-at-below 4 bytes (at + 8) small;
+    amount = number-at-below 4 bytes (at + 12) small;
   },
   steps-fit n bytes (at + step-length) small,
 )

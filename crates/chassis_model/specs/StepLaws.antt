@@ -4,7 +4,7 @@
 use Prim.Native.Nat.{ℕ, _*_, _<_}
 use mathlib.Core.Path.{_≡_, refl}
 use mathlib.Core.Logic.{_≢_}
-use mathlib.Core.Bool.{true, not, _&&_, false≢true, and-eq-true-iff}
+use mathlib.Core.Bool.{Bool, true, not, _&&_, false≢true, and-eq-true-iff}
 use lib.ListN.{length}
 use lib.Dec.{ltb, eqb}
 use borrow.Author.Tests.{ltb-true, lt-ltb, eqb-false, ne-eqb, not-true}
@@ -16,7 +16,7 @@ use Rattle.protocol.specs.Chassis as protocol
 use Rattle.protocol.specs.Chassis.{done, enabled}
 use Rattle.protocol.specs.Enabled.{deliverable}
 use Rattle.replica_model.specs.Layout.{replica-length}
-use Rattle.chassis_model.specs.Run.{Making, Action, Make, Deliver, Nothing, State, Stepped, declined, replica-of, log-of, N-at, step-checks, performed, acted, Step, action-of, call-of, made, delivered, step-on}
+use Rattle.chassis_model.specs.Run.{Making, Action, Make, Deliver, Nothing, State, Stepped, declined, replica-of, log-of, N-at, step-checks, performed, acted, Step, action-of, amount-fits, call-of, made, delivered, step-on}
 use Rattle.chassis_model.specs.Ledger.{ledger-action, was-accepted, ledger-step}
 use Rattle.chassis_model.specs.Numbered.{wire-log}
 use Rattle.chassis_model.specs.InStep.{CardsShow, reached-N}
@@ -39,37 +39,37 @@ pub link-test : (r i s : ℕ) → IsLink r i s → ltb i r && ltb s r && not (eq
 link-test r i s is = rw (lt-ltb i r (is .0), lt-ltb s r (is .1), ne-eqb i s (is .2))
 
 module _ (r k L : ℕ) (st : State) where
-  numbers-differ : (a : Action) → distinct (step-checks r k L a st) ≡ true
-  numbers-differ (Make m i q) = refl
-  numbers-differ (Deliver i s) = refl
-  numbers-differ Nothing = refl
+  numbers-differ : (a : Action) (fits : Bool) → distinct (step-checks r k L a fits st) ≡ true
+  numbers-differ (Make m i q) fits = refl
+  numbers-differ (Deliver i s) fits = refl
+  numbers-differ Nothing fits = refl
 
   -- it is declined, or its checks pass and it is performed
-  pub acted-cases : (P : Stepped → Type 0) (a : Action) → ((n : ℕ) → n ≢ 0 → P (declined st n)) → (AllPass (step-checks r k L a st) → P (performed r k L a st))
-      → P (acted r k L a st)
+  pub acted-cases : (P : Stepped → Type 0) (a : Action) (fits : Bool) → ((n : ℕ) → n ≢ 0 → P (declined st n)) → (AllPass (step-checks r k L a fits st) → P (performed r k L a st))
+      → P (acted r k L a fits st)
   unfolding acted
-  acted-cases P a refuses accepts = checked-cases (declined st) (step-checks r k L a st) (performed r k L a st) (numbers-differ a) P refuses accepts
+  acted-cases P a fits refuses accepts = checked-cases (declined st) (step-checks r k L a fits st) (performed r k L a st) (numbers-differ a fits) P refuses accepts
 
-  pub performed-is : (a : Action) → AllPass (step-checks r k L a st) → acted r k L a st ≡ performed r k L a st
+  pub performed-is : (a : Action) (fits : Bool) → AllPass (step-checks r k L a fits st) → acted r k L a fits st ≡ performed r k L a st
   unfolding acted
-  performed-is a passes = all-accepts (declined st) (performed r k L a st) (step-checks r k L a st) passes
+  performed-is a fits passes = all-accepts (declined st) (performed r k L a st) (step-checks r k L a fits st) passes
 
-  pub declined-is : (a : Action) (n : ℕ) → n ≢ 0 → Gives (step-checks r k L a st) n → acted r k L a st ≡ declined st n
+  pub declined-is : (a : Action) (fits : Bool) (n : ℕ) → n ≢ 0 → Gives (step-checks r k L a fits st) n → acted r k L a fits st ≡ declined st n
   unfolding acted
-  declined-is a n some gives = refusal-is (declined st) (step-checks r k L a st) (performed r k L a st) (numbers-differ a) n some gives
+  declined-is a fits n some gives = refusal-is (declined st) (step-checks r k L a fits st) (performed r k L a st) (numbers-differ a fits) n some gives
 
   -- what the checks of each action say
-  pub maker-there : (m : Making) (i q : ℕ) → AllPass (step-checks r k L (Make m i q) st) → i < r
-  maker-there m i q (there, _) = ltb-true i r there
+  pub maker-there : (m : Making) (i q : ℕ) (fits : Bool) → AllPass (step-checks r k L (Make m i q) fits st) → i < r
+  maker-there m i q fits (there, _) = ltb-true i r there
 
-  pub link-there : (i s : ℕ) → AllPass (step-checks r k L (Deliver i s) st) → IsLink r i s × (N-at r k L st i s < N-at r k L st s s)
-  link-there i s (linked, (waits, _)) = (is-link r i s linked, ltb-true _ _ waits)
+  pub link-there : (i s : ℕ) (fits : Bool) → AllPass (step-checks r k L (Deliver i s) fits st) → IsLink r i s × (N-at r k L st i s < N-at r k L st s s)
+  link-there i s fits (linked, (_, (waits, _))) = (is-link r i s linked, ltb-true _ _ waits)
 
-  pub link-passes : (i s : ℕ) → IsLink r i s → N-at r k L st i s < N-at r k L st s s → AllPass (step-checks r k L (Deliver i s) st)
-  link-passes i s is waits = (link-test r i s is, (lt-ltb _ _ waits, tt))
+  pub link-passes : (i s : ℕ) (fits : Bool) → fits ≡ true → IsLink r i s → N-at r k L st i s < N-at r k L st s s → AllPass (step-checks r k L (Deliver i s) fits st)
+  link-passes i s fits none is waits = (link-test r i s is, (none, (lt-ltb _ _ waits, tt)))
 
-  none-passes : AllPass (step-checks r k L Nothing st) → ⊥
-  none-passes (never, _) = false≢true never
+  none-passes : (fits : Bool) → AllPass (step-checks r k L Nothing fits st) → ⊥
+  none-passes fits (never, _) = false≢true never
 
 -- ---- beside the theory
 
@@ -109,11 +109,11 @@ module _ {r k L : ℕ} (now : RunAt r k L) where
       let a = Make m i q in
       made-cases now m i q hi (StepMatches now a)
       (λ n some _. declined-matches now a n some)
-      (λ _ hq goes fits.
+      (λ _ may goes fits.
       let x = next-message r (now .chassis) m i q in
       let is = making-done m r i q (now .chassis) in
-      let room = rw (← (size-is (run-cards now) m i q hi hq (goes .few))) at fits in
-      accepted-matches now a (value-told (run-cards now) m i q hi) (state-made now i x) (making-enabled m r i q (now .chassis) hi)
+      let room = rw (← (size-is (run-cards now) m i q hi may)) at fits in
+      accepted-matches now a (value-told (run-cards now) m i q hi) (state-made now i x) (making-enabled m r i q (now .chassis) hi (may .amount))
       (made-words-fit now i hi x goes)
       (made-logs-fit now i hi x goes room)
       (rw is (made-shows now i hi x goes))
@@ -135,16 +135,16 @@ module _ {r k L : ℕ} (now : RunAt r k L) where
       (delivered-shows now i s hi hs waits apart)
       (delivered-holds now i s hi hs waits apart))
 
-  performed-matches : (a : Action) → AllPass (step-checks r k L a (now .state)) → StepMatches now a (performed r k L a (now .state))
-  performed-matches (Make m i q) passes = made-matches m i q (maker-there r k L (now .state) m i q passes)
-  performed-matches (Deliver i s) passes = let l = link-there r k L (now .state) i s passes in link-matches i s (l .0) (l .1)
-  performed-matches Nothing passes = absurd (none-passes r k L (now .state) passes)
+  performed-matches : (a : Action) (fits : Bool) → AllPass (step-checks r k L a fits (now .state)) → StepMatches now a (performed r k L a (now .state))
+  performed-matches (Make m i q) fits passes = made-matches m i q (maker-there r k L (now .state) m i q fits passes)
+  performed-matches (Deliver i s) fits passes = let l = link-there r k L (now .state) i s fits passes in link-matches i s (l .0) (l .1)
+  performed-matches Nothing fits passes = absurd (none-passes r k L (now .state) fits passes)
 
-  action-matches : (a : Action) → StepMatches now a (acted r k L a (now .state))
-  action-matches a = acted-cases r k L (now .state) (StepMatches now a) a (declined-matches now a) (performed-matches a)
+  action-matches : (a : Action) (fits : Bool) → StepMatches now a (acted r k L a fits (now .state))
+  action-matches a fits = acted-cases r k L (now .state) (StepMatches now a) a fits (declined-matches now a) (performed-matches a fits)
 
   pub step-matches : (s : Step) → StepMatches now (action-of s) (step-on r k L s (now .state))
-  step-matches s = action-matches (action-of s)
+  step-matches s = action-matches (action-of s) (amount-fits s)
 
   -- one that is accepted is enabled, and what it leaves
 

@@ -1,7 +1,8 @@
 -- LAWS. A run beside the ledgers: by induction over the steps every state is reached, so reads are the ledger's readings and answers are those due.
-use Prim.Native.Nat.{ℕ, _*_, _<_}
+use Prim.Native.Nat.{ℕ, suc, _*_, _<_}
 use mathlib.Core.Path.{_≡_, refl, sym, ap, ap₂, subst, _∙_}
 use mathlib.Core.Bool.{Bool, true, cond}
+use mathlib.Core.Logic.{_≢_}
 use mathlib.Core.List.{List, [], _∷_, _++_, map}
 use lib.ListN.{length}
 use Rattle.protocol.specs.Ledger as ledger
@@ -9,15 +10,21 @@ use Rattle.protocol.specs.Ledger.{Ledger, after-steps}
 use Rattle.protocol.specs.Chassis as protocol
 use Rattle.protocol.specs.Chassis.{Offer, run}
 use Rattle.protocol.specs.Runs.{step-of}
-use Rattle.replica_model.specs.Layout.{replica-length, N-of}
-use Rattle.replica_model.specs.Calls.{read-on}
-use Rattle.replica_model.specs.RowLaws.{sizes}
-use Rattle.replica_model.specs.RowLaws.{tests}
+use Rattle.protocol.specs.Acceptance.{plausible}
+use Rattle.replica_model.specs.Layout.{replica-length, C-of, N-of}
+use Rattle.replica_model.specs.Format.{format-2}
+use Rattle.replica_model.specs.Calls.{row-well-formed, read-on, take-on}
+use Rattle.replica_model.specs.CallsLaws.{take-decided}
+use Rattle.replica_model.specs.RowLaws.{sizes, tests, row-from}
+use Rattle.replica_model.specs.Receivers.{take-passes}
 use Rattle.chassis_model.specs.ListParts.{part}
-use Rattle.chassis_model.specs.Run.{Step, action-of, State, StepAnswer, replica-of, step-on, state-after, answers-of, numbers-in, chassis-fits, sizes-right, run-on, steps-of, run-bytes-on}
+use Rattle.chassis_model.specs.Log.{waiting-part}
+use Rattle.chassis_model.specs.Run.{Step, action-of, State, Stepped, StepAnswer, replica-of, log-of, delivered, step-on, state-after, answers-of, numbers-in, chassis-fits, sizes-right, run-on, steps-of, run-bytes-on}
 use Rattle.chassis_model.specs.Ledger.{ledger-step, was-accepted, accepted-of, ledger-of, ledger-reading}
 use Rattle.chassis_model.specs.Answers.{fresh-state, value-asked, due-answer, answer-in, run-answer}
-use Rattle.chassis_model.specs.Matches.{Sizes, Matches, RunAt, run-at}
+use Rattle.chassis_model.specs.InStep.{cards-at, reached-row}
+use Rattle.chassis_model.specs.Matches.{Sizes, Matches, RunAt, run-at, run-cards, N-in}
+use Rattle.chassis_model.specs.DeliveredSteps.{one-delivered}
 use Rattle.chassis_model.specs.FreshRun.{fresh-matches}
 use Rattle.chassis_model.specs.StepLaws.{step-matches}
 use Rattle.chassis_model.specs.Offers.{offers-of, TheoryRun}
@@ -77,6 +84,36 @@ module _ (r k L : ℕ) (steps : List Step) (words logs answers : List ℕ) (righ
   theory-run =
       let z = right-sizes r k L (length steps) words logs answers right in
       rw (answers-are, words-are) (state-run r k L steps logs (z .0) (z .1))
+
+-- ---- no 2 and no 10
+
+-- what waits is taken, so it is plausible
+reached-plausible : {r k L : ℕ} (now : RunAt r k L) (i s : ℕ) → i < r → s < r → i ≢ s → N-in now i s < N-in now s s
+    → let b = replica-of r k L (now .state) i in
+    let m = format-2 .received (waiting-part (suc (N-in now i s)) (log-of r k L (now .state) s)) in
+    plausible (C-of b) i (m .sender) (m .content) ≡ true
+unfolding delivered
+reached-plausible {r} {k} {L} now i s hi hs apart waits =
+    let b = replica-of r k L (now .state) i in
+    let bytes = waiting-part (suc (N-in now i s)) (log-of r k L (now .state) s) in
+    let taken : take-on b bytes .answer .number ≡ 0 = ap (λ (x : Stepped). x .answer .number) (one-delivered now i s hi hs waits apart) in
+    let passes = take-passes b bytes (take-decided format-2 b bytes .exact 0 .0 taken) in
+    rw (run-cards now .in-step .cards-show .heads i hi .own-is) at (passes .1 .1 .1 .1 .1 .1 .1 .0)
+
+module _ (r k L : ℕ) (steps : List Step) (words logs answers : List ℕ) (right : sizes-right r k L (length steps) words logs answers ≡ true) where
+  pub run-well-formed : (i q : ℕ) → i < r → q < k → row-well-formed (part (replica-length r k) (run-on r k L steps words logs answers .words) i) q ≡ true
+  run-well-formed i q hi hq = row-from _ q (reached-row (cards-at (theory-run r k L steps words logs answers right .cards)) i q hi hq)
+
+  pub run-plausible : (i s : ℕ) → i < r → s < r → i ≢ s
+      → let after = run-on r k L steps words logs answers in
+      let b = part (replica-length r k) (after .words) i in
+      N-of r b s < N-of r (part (replica-length r k) (after .words) s) s
+      → let m = format-2 .received (waiting-part (suc (N-of r b s)) (part L (after .logs) s)) in
+      plausible (C-of b) i (m .sender) (m .content) ≡ true
+  unfolding run-on
+  run-plausible i s hi hs apart =
+      let z = right-sizes r k L (length steps) words logs answers right in
+      rw right (reached-plausible (run-at (run-matches steps (run-at (fresh-matches r k L logs (z .0) (z .1))) .0)) i s hi hs apart)
 
 pub ledger-theorem : (r k L : ℕ) (steps : List Step) (words logs answers : List ℕ) → sizes-right r k L (length steps) words logs answers ≡ true
     → (i q : ℕ) → i < r → q < k

@@ -1,17 +1,19 @@
 // What a chassis of several cards joined by logs is and what a run of steps does. The crate holds definitions and claims (specs/) and no
 // function; the types stand here so that the definitions' and the code's are the same.
 
-// One step of a run: 1 count (card, counter), 2 clear (card, counter), 3 deliver (receiver, sender), 4 read and clear (card, counter).
+// One step of a run: 1 count (card, counter), 2 clear (card, counter), 3 deliver (receiver, sender), 4 read and clear (card, counter). A count
+// has its amount, the others have 0 there.
 #[repr(C)]
 pub struct Step {
     pub kind: u32,
     pub first: u32,
     pub second: u32,
+    pub amount: u32,
 }
 
-// What a card makes in a step: a count, a clear, or a clear whose value is read just before.
+// What a card makes in a step: a count by an amount, a clear, or a clear whose value is read just before.
 pub enum Making {
-    Count,
+    Count(u32),
     Clear,
     ReadAndClear,
 }

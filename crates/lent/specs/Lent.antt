@@ -7,7 +7,7 @@ use lib.Dec.{ltb, eqb}
 use lib.ListN.{length, take, getD}
 use Rattle.protocol.specs.Limits.{most-cards}
 use Rattle.protocol.specs.Functions.{all-below}
-use Rattle.wire.specs.Message.{front-length}
+use Rattle.wire.specs.Message.{version-2, front-length}
 use Rattle.replica_model.specs.Layout.{replica-length, N-of}
 use Rattle.replica_model.specs.ClaimTerms as terms
 use Rattle.chassis_model.specs.ListParts.{part}
@@ -42,7 +42,7 @@ pub record InPlace (sizes : Sizes) (words : List ℕ) : Type 0 where
 
 -- the length of the message at the front, if it is card s's message number q; else 0
 abbrev pub numbered-length : ℕ → ℕ → List ℕ → ℕ
-numbered-length s q rest = cond (is-numbered s q (take (front-length rest) rest)) (front-length rest) 0
+numbered-length s q rest = cond (is-numbered s q (take (front-length version-2 rest) rest)) (front-length version-2 rest) 0
 
 -- a message that is not there, or is not card s's of its number, among the first n
 pub record Missing (log : List ℕ) (s n : ℕ) : Type 0 where

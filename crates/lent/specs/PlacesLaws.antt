@@ -1,6 +1,6 @@
 -- LAWS. A walk along a log, message by message (`stands-next`, `stands-not`), and finding the places of a sender's links on the way (`Finding`); and what waits
 -- at such a place (`numbered-waits`).
-use Prim.Native.Nat.{ℕ, zero, suc, _+_, _-_, _≤_, _<_}
+use Prim.Native.Nat.{ℕ, zero, suc, _+_, _≤_, _<_}
 use mathlib.Core.Path.{_≡_, refl, sym, ap, _∙_}
 use mathlib.Core.Bool.{Bool, true, false, cond, _&&_, and-false, false≢true}
 use mathlib.Core.List.{List}
@@ -17,7 +17,7 @@ use Rattle.protocol.specs.Functions.{all-below}
 use Rattle.protocol.specs.AcceptanceLaws.{tests, below-facts, below-from}
 use Rattle.wire.specs.Number.{int-at, hyper-at}
 use Rattle.wire.specs.Message.{clear-kind, shortest-message, kind-at, sender-at, sequence-at, increment-message, clear-message}
-use Rattle.wire.specs.Message.{called-length, message-at, reads, front-length}
+use Rattle.wire.specs.Message.{version-2, called-length, message-at, reads, front-length}
 use Rattle.wire.specs.Claims.{front-reads}
 use Rattle.wire.specs.RoundTrips.{read-long}
 use Rattle.chassis_model.specs.ListParts.{part}
@@ -39,32 +39,32 @@ below-fails n f j l e = not-yes (all-below n f) (λ h. false≢true (sym e ∙ b
 -- ---- the messages of a log, one by one
 
 -- the first one passed
-end-of-rest : (n : ℕ) (log : List ℕ) → end-of (suc n) log ≡ front-length log + end-of n (drop (front-length log) log)
+end-of-rest : (n : ℕ) (log : List ℕ) → end-of (suc n) log ≡ front-length version-2 log + end-of n (drop (front-length version-2 log) log)
 unfolding end-of
 end-of-rest n log = refl
 
-end-of-next : (n : ℕ) (log : List ℕ) → end-of (suc n) log ≡ end-of n log + front-length (drop (end-of n log) log)
+end-of-next : (n : ℕ) (log : List ℕ) → end-of (suc n) log ≡ end-of n log + front-length version-2 (drop (end-of n log) log)
 unfolding end-of
 end-of-next zero log = omega arith
 end-of-next (suc n) log =
-    let f = front-length log in
+    let f = front-length version-2 log in
     let rest = drop f log in
     let more = end-of-next n rest in
     let same : drop (end-of n rest) rest ≡ drop (f + end-of n rest) log = drop-drop (end-of n rest) f log in
     end-of-rest (suc n) log ∙ rw (end-of-rest n log, ← same) (omega arith)
 
 -- where none stands at the front, none stands behind it
-ends-nowhere : (n : ℕ) (log : List ℕ) → front-length log ≡ 0 → end-of n log ≡ 0
+ends-nowhere : (n : ℕ) (log : List ℕ) → front-length version-2 log ≡ 0 → end-of n log ≡ 0
 unfolding end-of
 ends-nowhere zero log none = refl
 ends-nowhere (suc n) log none = end-of-rest n log ∙ rw none (omega (arith, ends-nowhere n log none))
 
 -- message number n + 1 is at the front of what follows the first n
-pub waiting-at : (n : ℕ) (log : List ℕ) → waiting-part (suc n) log ≡ take (front-length (drop (end-of n log) log)) (drop (end-of n log) log)
+pub waiting-at : (n : ℕ) (log : List ℕ) → waiting-part (suc n) log ≡ take (front-length version-2 (drop (end-of n log) log)) (drop (end-of n log) log)
 unfolding end-of
 waiting-at zero log = waiting-here 1 log refl
 waiting-at (suc n) log =
-    let f = front-length log in
+    let f = front-length version-2 log in
     let rest = drop f log in
     by-place f 0
     (λ e. waiting-none (suc (suc n)) log (omega arith) e ∙ rw (ends-nowhere (suc n) log e, e))
@@ -74,34 +74,34 @@ waiting-at (suc n) log =
 
 -- ---- the sender and the number of a message
 
-pub header-of : (s : List ℕ) → (message-at s .sender ≡ int-at s sender-at) × (message-at s .sequence ≡ hyper-at s sequence-at)
+pub header-of : (s : List ℕ) → (message-at version-2 s .sender ≡ int-at s sender-at) × (message-at version-2 s .sequence ≡ hyper-at s sequence-at)
 unfolding message-at increment-message clear-message
 header-of s = by-test (eqb (int-at s kind-at) clear-kind) (λ e. rw e (refl, refl)) (λ e. rw e (refl, refl))
 
 -- a message that stands at the front is not empty
-pub front-long : (rest : List ℕ) → (front-length rest ≡ 0 → ⊥) → shortest-message ≤ front-length rest
+pub front-long : (rest : List ℕ) → (front-length version-2 rest ≡ 0 → ⊥) → shortest-message ≤ front-length version-2 rest
 front-long rest some =
-    let front = front-reads rest (omega arith) in
-    rw (length-take-le (front-length rest) rest (front .1)) at (read-long (take (front-length rest) rest) (front .0))
+    let front = front-reads version-2 rest (omega arith) in
+    rw (length-take-le (front-length version-2 rest) rest (front .1)) at (read-long version-2 (take (front-length version-2 rest) rest) (front .0))
 
 -- the message at the front of a list of bytes
 module _ (s q : ℕ) (rest : List ℕ) where
   abbrev front : List ℕ
-  front = take (front-length rest) rest
+  front = take (front-length version-2 rest) rest
 
-  numbered-there : is-numbered s q front ≡ true → front-length rest ≡ 0 → ⊥
+  numbered-there : is-numbered s q front ≡ true → front-length version-2 rest ≡ 0 → ⊥
   unfolding is-numbered
   numbered-there h e =
       let f = simp tests at h in
-      let none : shortest-message ≤ length (take 0 rest) = rw e at (read-long front (f .0 .0)) in
+      let none : shortest-message ≤ length (take 0 rest) = rw e at (read-long version-2 front (f .0 .0)) in
       omega arith
 
-  pub numbered-none : front-length rest ≡ 0 → numbered-length s q rest ≡ 0
+  pub numbered-none : front-length version-2 rest ≡ 0 → numbered-length s q rest ≡ 0
   numbered-none e = by-test (is-numbered s q front) (λ t. rw t e) (λ t. rw t)
 
-  pub numbered-some : (front-length rest ≡ 0 → ⊥) → is-numbered s q front ≡ eqb (int-at front sender-at) s && eqb (hyper-at front sequence-at) q
+  pub numbered-some : (front-length version-2 rest ≡ 0 → ⊥) → is-numbered s q front ≡ eqb (int-at front sender-at) s && eqb (hyper-at front sequence-at) q
   unfolding is-numbered
-  numbered-some d = rw (front-reads rest (omega arith) .0, header-of front .0, header-of front .1)
+  numbered-some d = rw (front-reads version-2 rest (omega arith) .0, header-of front .0, header-of front .1)
 
 -- ---- a walk
 
@@ -110,7 +110,7 @@ module _ (log : List ℕ) (s n at a : ℕ) (place : at ≡ end-of n log) (found 
   abbrev is-there : Bool
   is-there = is-numbered s (suc n) (waiting-part (suc n) log)
 
-  same : is-numbered s (suc n) (take (front-length (drop at log)) (drop at log)) ≡ is-there
+  same : is-numbered s (suc n) (take (front-length version-2 (drop at log)) (drop at log)) ≡ is-there
   same = rw (waiting-at n log, place)
 
   pub stands-next : (a ≡ 0 → ⊥) → (at + a ≡ end-of (suc n) log) × (is-there ≡ true)
@@ -334,16 +334,16 @@ module _ (sizes : Sizes) (words logs : List ℕ) where
 -- ---- a message that waits, of words and logs that pass the checks
 
 -- what stands at the front is as long as it asks for
-front-called : (rest : List ℕ) → (front-length rest ≡ 0 → ⊥) → front-length rest ≡ called-length rest
+front-called : (rest : List ℕ) → (front-length version-2 rest ≡ 0 → ⊥) → front-length version-2 rest ≡ called-length version-2 rest
 unfolding front-length
 front-called rest some =
-    by-test (leb (called-length rest) (length rest) && reads (take (called-length rest) rest)) (λ t. rw t) (λ f. absurd (some (rw f)))
+    by-test (leb (called-length version-2 rest) (length rest) && reads version-2 (take (called-length version-2 rest) rest)) (λ t. rw t) (λ f. absurd (some (rw f)))
 
 module _ (r k L : ℕ) (st : State) (g : Checked r k L st) (i s : ℕ) (hi : i < r) (hs : s < r) (waits : N-at r k L st i s < N-at r k L st s s) where
   abbrev behind : List ℕ
   behind = drop (ends-in r k L st i s) (log-of r k L st s)
 
-  some : front-length behind ≡ 0 → ⊥
+  some : front-length version-2 behind ≡ 0 → ⊥
   some =
       let n = N-at r k L st i s in
       numbered-there s (suc n) behind (rw (waiting-at n (log-of r k L st s)) at (g .numbered s n hs waits))
@@ -355,7 +355,7 @@ module _ (r k L : ℕ) (st : State) (g : Checked r k L st) (i s : ℕ) (hi : i <
       let long : length log ≡ L = part-length r L s (st .logs) (g .logs-fit) hs in
       let least = front-long behind some in
       let called = front-called behind some in
-      let room : front-length behind ≤ length behind = front-reads behind (omega arith) .1 in
+      let room : front-length version-2 behind ≤ length behind = front-reads version-2 behind (omega arith) .1 in
       let in-log = ends-within n log in
       let cut = length-drop (end-of n log) log in
       record {
@@ -366,5 +366,5 @@ module _ (r k L : ℕ) (st : State) (g : Checked r k L st) (i s : ℕ) (hi : i <
         waits = rw (← called) (waiting-at n log);
       }
 
-  pub end-behind : end-of (suc (N-at r k L st i s)) (log-of r k L st s) ≡ ends-in r k L st i s + called-length behind
+  pub end-behind : end-of (suc (N-at r k L st i s)) (log-of r k L st s) ≡ ends-in r k L st i s + called-length version-2 behind
   end-behind = rw (← (front-called behind some)) (end-of-next (N-at r k L st i s) (log-of r k L st s))

@@ -20,7 +20,7 @@ fn message_length(log: &[u8], at: usize, sender: usize, number: u64) -> usize
     ensures { λ a. ⌜ (a ≡ numbered-length sender number (drop at (now (log .entry)))) × (at + a ≤ length (now (log .entry))) ⌝ }
 {
     let rest = &log[at..];
-    let length = decode::front_length(rest);
+    let length = decode::front_length(rest, wire::VERSION_2);
     if length == 0 {
         return 0;
     }

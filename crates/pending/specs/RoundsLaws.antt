@@ -16,7 +16,7 @@ use Rattle.protocol.specs.Limits.{most-cards}
 use Rattle.protocol.specs.Cases.{by-le, by-test, and-yes}
 use Rattle.protocol.specs.RoundRobin.{Link, link, Orderly}
 use Rattle.protocol.specs.RoundRobinOpen.{waiting-to, waiting-links, Served, serve, serve-none, serve-full, serve-room, serve-less, visits-next, Serving, serving-begins, serving-visits, serving-next, serving-done}
-use Rattle.wire.specs.Message.{called-length}
+use Rattle.wire.specs.Message.{version-2, called-length}
 use Rattle.chassis_model.specs.ListParts.{part}
 use Rattle.chassis_model.specs.Run.{State, state-of, N-at, delivered}
 use Rattle.chassis_model.specs.Ends.{ends-in}
@@ -181,7 +181,7 @@ module _ (sizes : Sizes) (which : ℕ) (words logs places : List ℕ) (h : TurnR
         places-are =
             let here = rw state-then at (N-here r k L i s st (h .is-link) (h .ready .checked) some-wait taken) in
             let there = rw state-then at (N-there r k L i s st (h .is-link) (h .ready .checked) some-wait taken) in
-            let far : ℕ = called-length (drop (ends-in r k L st i s) (part L logs s)) in
+            let far : ℕ = called-length version-2 (drop (ends-in r k L st i s) (part L logs s)) in
             let moved = places-move r (ends-in r k L st) (ends-in r k L (state-of words′ logs)) places i s far (h .ready .words-fit .few-cards) (h .is-link .0) (h .is-link .1)
             (h .ready .places-are) (rw (here, add-one (N-at r k L st i s)) (end-behind r k L st (h .ready .checked) i s (h .is-link .0) (h .is-link .1) (h .waits)))
             (λ j t hj ht other. rw (there j t ht other)) in

@@ -1,11 +1,11 @@
 -- LAWS. What the tests of `Acceptance` say in plain numbers (`Rows`), and that those numbers are enough.
-use Prim.Native.Nat.{ℕ, zero, suc, _+_, _≤_, _<_}
+use Prim.Native.Nat.{ℕ, zero, suc, _≤_, _<_}
 use mathlib.Core.Path.{_≡_, refl, ap}
 use mathlib.Core.List.{List, [], _∷_}
 use mathlib.Core.Bool.{Bool, true, false, not, cond, _&&_, _||_, and-eq-true-iff, false≢true}
 use native.Mathlib.Omega.{arith}
 use lib.Dec.{leb, ltb, eqb}
-use borrow.Author.Tests.{ltb-true, lt-ltb, le-ltb, lt-leb, eq-eqb, ne-eqb}
+use borrow.Author.Tests.{ltb-true, lt-ltb, le-ltb, eq-eqb, ne-eqb}
 use Rattle.protocol.specs.Limits.{MAX}
 use Rattle.protocol.specs.Cases.{by-le, by-place, or-cases, or-left, or-right, and-yes, and-no-right}
 pub use Rattle.protocol.specs.Tests.{tests}
@@ -13,8 +13,8 @@ use Rattle.protocol.specs.Functions.{all-below, count-below}
 use Rattle.protocol.specs.Entry.{Entry}
 use Rattle.protocol.specs.Chassis.{Message, increment, clearing, ClearEntry}
 use Rattle.protocol.specs.StoreLaws.{CardsBelow}
-use Rattle.protocol.specs.Rows.{WellFormed, WellFormedRow, Plausible, PlausibleEntries}
-use Rattle.protocol.specs.Acceptance.{entry-well-formed, card-well-formed, tables-well-formed, all-entries, entries-of, cards-known, increment-implausible, entry-plausible, plausible}
+use Rattle.protocol.specs.Rows.{WellFormed, WellFormedRow, Plausible, PlausibleIncrement, PlausibleEntries}
+use Rattle.protocol.specs.Acceptance.{entry-well-formed, card-well-formed, tables-well-formed, all-entries, entries-of, cards-known, increment-plausible, entry-plausible, plausible}
 
 -- ---- all, and how many, below a bound
 
@@ -76,7 +76,7 @@ pub row-alike : (r own : ℕ) (C N C′ N′ : ℕ → ℕ) (row row′ : ℕ �
     → ((j : ℕ) → j < r → C′ j ≡ C j) → ((j : ℕ) → j < r → N′ j ≡ N j) → ((j : ℕ) → j < r → row′ j ≡ row j)
     → WellFormedRow MAX r own C N row → WellFormedRow MAX r own C′ N′ row′
 row-alike r own C N C′ N′ row row′ o c n e k = record {
-  C≤N = λ j l. rw (c j l, n j l) (k .C≤N j l);
+  C≤MAX = λ j l. rw (c j l) (k .C≤MAX j l);
   N≤MAX = λ j l. rw (n j l) (k .N≤MAX j l);
   entry = λ j l. rw (e j l) (k .entry j l);
   own≤C = rw (c own o, e own o) (k .own≤C);
@@ -86,20 +86,20 @@ module _ (r own : ℕ) (C N : ℕ → ℕ) (row : ℕ → Entry) where
   pub tables-facts : tables-well-formed r own C N row ≡ true → WellFormedRow MAX r own C N row
   unfolding tables-well-formed card-well-formed
   tables-facts h = record {
-    C≤N = λ j l. (at-card j l) .0 .0;
+    C≤MAX = λ j l. (at-card j l) .0 .0;
     N≤MAX = λ j l. (at-card j l) .0 .1;
     entry = λ j l. entry-facts (row j) ((at-card j l) .1);
     own≤C = (simp tests at h) .1;
   }
     where
-      at-card : (j : ℕ) → j < r → ((C j ≤ N j) × (N j ≤ MAX)) × (entry-well-formed (row j) ≡ true)
+      at-card : (j : ℕ) → j < r → ((C j ≤ MAX) × (N j ≤ MAX)) × (entry-well-formed (row j) ≡ true)
       at-card j l = simp tests at (below-facts r _ ((simp tests at h) .0) j l)
 
   pub tables-from : WellFormedRow MAX r own C N row → tables-well-formed r own C N row ≡ true
   unfolding tables-well-formed card-well-formed
   tables-from f =
       simp tests
-      (below-from r _ (λ j l. simp tests ((f .C≤N j l, f .N≤MAX j l), entry-from (row j) (f .entry j l))), f .own≤C)
+      (below-from r _ (λ j l. simp tests ((f .C≤MAX j l, f .N≤MAX j l), entry-from (row j) (f .entry j l))), f .own≤C)
 
 -- ---- the cards of a message
 
@@ -128,15 +128,15 @@ module _ (r own sender : ℕ) (m : Message) where
 
 -- ---- a plausible message
 
--- an increment's p is at most C + w
-pub increment-near : (C w p : ℕ) (start : Bool) → not (increment-implausible C w p start) ≡ true → p ≤ C + w
-unfolding increment-implausible
-increment-near C w p start h = by-le p (C + w) (λ l. l) (λ l. absurd (false≢true (rw (lt-ltb (C + w) p l) at h)))
+pub increment-facts : (C w p : ℕ) (start : Bool) → increment-plausible C w p start ≡ true → PlausibleIncrement MAX C w p start
+unfolding increment-plausible
+increment-facts C w p true h = let k = simp tests at h in (k .0, k .1)
+increment-facts C w p false h = let k = simp tests at h in (k .0 .0, k .0 .1, k .1)
 
-increment-from : (C w p : ℕ) (start : Bool) → p ≤ C + w → (start ≡ true → p ≡ C + w) → (start ≡ false → w < p) → not (increment-implausible C w p start) ≡ true
-unfolding increment-implausible
-increment-from C w p true l a b = rw (le-ltb (C + w) p l, eq-eqb p (C + w) (a refl))
-increment-from C w p false l a b = rw (le-ltb (C + w) p l, lt-leb p w (b refl))
+increment-from : (C w p : ℕ) (start : Bool) → PlausibleIncrement MAX C w p start → increment-plausible C w p start ≡ true
+unfolding increment-plausible
+increment-from C w p true (a, b) = simp tests (a, b)
+increment-from C w p false (a, b, c) = simp tests ((a, b), c)
 
 module _ (C : ℕ → ℕ) (own sender : ℕ) where
   -- an entry for the own card has c at most the own C
@@ -165,9 +165,9 @@ module _ (C : ℕ → ℕ) (own sender : ℕ) where
   entries-plausible-from (e ∷ es) fits =
       and-yes (entry-plausible C own sender e) _ (entry-plausible-from e (fits .0 .0) (fits .0 .1)) (entries-plausible-from es (fits .1))
 
-  pub plausible-from : (m : Message) → Plausible own sender C m → plausible C own sender m ≡ true
+  pub plausible-from : (m : Message) → Plausible MAX own sender C m → plausible C own sender m ≡ true
   unfolding plausible
-  plausible-from (increment q w p start) fits = increment-from (C sender) w p start (fits .0) (fits .1) (fits .2)
+  plausible-from (increment q w p start) fits = increment-from (C sender) w p start fits
   plausible-from (clearing q es) fits = entries-plausible-from es fits
 
 -- it looks at C of the two cards alone
@@ -176,6 +176,6 @@ module _ (own sender : ℕ) (C D : ℕ → ℕ) (a : D own ≡ C own) (b : D sen
   entries-cong [] fits = tt
   entries-cong (e ∷ es) fits = ((λ x. rw a (fits .0 .0 x), λ x. rw b (fits .0 .1 x)), entries-cong es (fits .1))
 
-  pub plausible-cong : (m : Message) → Plausible own sender C m → Plausible own sender D m
+  pub plausible-cong : (m : Message) → Plausible MAX own sender C m → Plausible MAX own sender D m
   plausible-cong (increment q w p start) fits = rw b fits
   plausible-cong (clearing q es) fits = entries-cong es fits

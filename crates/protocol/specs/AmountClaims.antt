@@ -1,12 +1,12 @@
--- CLAIMS. Request 2026-05, "Counting by an amount", over lists of steps whose counts are by any amounts. Each claim has its sentence, its statement,
--- and the law that proves it. r is the number of cards, os any list of steps, `after-run r os` the chassis after it, from a fresh one (`Runs`).
-use Prim.Native.Nat.{ℕ, _<_}
+-- CLAIMS. Counting by an amount is counting by one, again and again: over lists of steps whose counts are by any amounts. Each claim has its sentence, its
+-- statement, and the law that proves it. r is the number of cards, os any list of steps, `after-run r os` the chassis after it, from a fresh one (`Runs`).
+use Prim.Native.Nat.{ℕ}
 use mathlib.Core.Path.{_≡_, sym, ap, _∙_}
 use mathlib.Core.Bool.{true}
 use mathlib.Core.List.{List}
 use lib.ListN.{getD}
 use Rattle.protocol.specs.Ledger.{count, deliver, ledger-value}
-use Rattle.protocol.specs.Chassis.{Message, no-message, count-message, done, enabled, fresh-chassis, Offer, read-value, counter-of}
+use Rattle.protocol.specs.Chassis.{Message, no-message, count-message, done, enabled, Offer, read-value, counter-of}
 use Rattle.protocol.specs.Runs.{after-run, ledger-after}
 use Rattle.protocol.specs.Theorem as theorem
 use Rattle.protocol.specs.Algorithm1.{value, state-of}
@@ -15,8 +15,6 @@ use Rattle.protocol.specs.InARow.{effectors, inc-generators, Instances, 
 use Rattle.protocol.specs.InARowRuns as runs
 use Rattle.protocol.specs.Singly.{in-single-steps}
 use Rattle.protocol.specs.SinglyLaws.{single-C, single-entry}
-use Rattle.protocol.specs.AmountRows.{WellFormedRow, Plausible, StepsWithin}
-use Rattle.protocol.specs.AmountRowLaws.{rows-well-formed, after-within, waiting-plausible}
 
 -- ---- "Algorithm 1 is compared as w increments in a row with nothing between them, in every run"
 
@@ -59,16 +57,3 @@ pub single-steps : (r i : ℕ) (os : List Offer)
     → ((j : ℕ) → after-run r (in-single-steps r os) .replica i .C j ≡ after-run r os .replica i .C j)
     × ((q j : ℕ) → after-run r (in-single-steps r os) .replica i .entry q j ≡ after-run r os .replica i .entry q j)
 single-steps r i os = (λ j. single-C r i j os, λ q j. single-entry r i q j os)
-
--- ---- "C counts units, so a well-formed row asks C <= MAX, not C <= N; 4 also covers C + w above MAX at the sender."
-
--- Refusal 2 does not occur in a run whose accepted steps are none that 4 covers: every row of every card is well-formed.
-pub run-well-formed : (r q i most : ℕ) (os : List Offer) → StepsWithin most r os fresh-chassis → WellFormedRow most i q (after-run r os .replica i)
-run-well-formed r q i most os h =
-    rows-well-formed r q most (after-run r os) (ledger-after r q os) (theorem.run-invariant r q os) (after-within most r os h) i
-
--- Nor does refusal 10: the message that waits for card i on the link from s is plausible to i, "C + w <= MAX" included.
-pub run-plausible : (r i s most : ℕ) (os : List Offer) → StepsWithin most r os fresh-chassis
-    → after-run r os .replica i .N s < after-run r os .replica s .N s
-    → Plausible most i s (after-run r os .replica i .C) (getD (after-run r os .log s) (after-run r os .replica i .N s) no-message)
-run-plausible r i s most os h waits = waiting-plausible r most i s os (after-within most r os h) waits

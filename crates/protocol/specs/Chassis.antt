@@ -14,8 +14,8 @@ pub use Rattle.protocol.specs.declared.ClearEntry.{ClearEntry}
 
 -- ---- one card
 
--- "C[j] for each card j (increments received from j on all counters); then N[j] (messages received from j); then, counter by counter, one entry
--- (p, n, c) for each card."
+-- "C[j] for each card j (units received from j on all counters, an increment by w being w units); then N[j] (messages received from j); then, counter by
+-- counter, one entry (p, n, c) for each card."
 pub record Replica : Type 0 where
   -- by counter, then by card
   pub entry : ℕ → ℕ → Entry
@@ -43,7 +43,7 @@ abbrev pub units-of : Message → ℕ
 units-of (increment k w p start) = w
 units-of (clearing k ts) = 0
 
--- "Count: with M[i] absent, send p = C[i] + 1 with start; else p = M[i].p + 1 without." (Algorithm 1, lines 12 to 16)
+-- "Count by w: with M[i] absent, send p = C[i] + w with start; else p = M[i].p + w without." (Algorithm 1, lines 12 to 16)
 unfoldable pub count-message : ℕ → ℕ → ℕ → Replica → Message
 count-message i q w b = increment q w (count-p w (b .C i) (b .entry q i)) (count-starts (b .entry q i))
 

@@ -3,16 +3,16 @@
 -- r is the number of cards, q any counter number, os any list of steps, each with whether anything that the theory need not know speaks
 -- against it (`Chassis.Offer`). `after-run r os` is the chassis after the list, from a fresh one; `ledger-after r q os` is counter q's
 -- ledger, fed with the same steps and told which were accepted (`Runs`).
-use Prim.Native.Nat.{ℕ, _≤_, _<_}
+use Prim.Native.Nat.{ℕ, _<_}
 use mathlib.Core.Path.{_≡_}
 use mathlib.Core.Bool.{Bool, not, _&&_}
 use mathlib.Core.List.{List}
 use lib.Dec.{eqb, ltb}
 use lib.ListN.{getD}
 use Rattle.protocol.specs.Ledger.{deliver, link-waits, ledger-value, ledger-holders}
-use Rattle.protocol.specs.Chassis.{increment, clearing, no-message, ClearEntry, Replica, taken, count-message, clear-message, Offer, enabled, read-value, read-holders}
+use Rattle.protocol.specs.Chassis.{increment, clearing, no-message, ClearEntry, Replica, fresh-chassis, taken, count-message, clear-message, Offer, enabled, read-value, read-holders}
 use Rattle.protocol.specs.Rows.{WellFormed, WellFormedRow, Plausible}
-use Rattle.protocol.specs.Runs.{after-run, ledger-after, AmountsOne}
+use Rattle.protocol.specs.Runs.{after-run, ledger-after, StepsWithin}
 use Rattle.protocol.specs.Algorithm1.{value, inc-generator, inc-effector, reset-generator, reset-effector, state-of, message-of, SomeUnits}
 use Rattle.protocol.specs.Theorem as theorem
 use Rattle.protocol.specs.Links.{deliver-enabled-is}
@@ -40,13 +40,15 @@ pub deliver-enabled : (r q i s : ℕ) (os : List Offer)
     → enabled r (deliver i s) (after-run r os) ≡ ltb i r && (ltb s r && (not (eqb i s) && link-waits i s (ledger-after r q os)))
 deliver-enabled r q i s os = deliver-enabled-is r q (after-run r os) (ledger-after r q os) (theorem.run-invariant r q os) i s
 
--- Refusal 10 does not occur in a run: the message that waits for card i on the link from s is plausible to i, whatever its counter.
-pub run-plausible : (r i s : ℕ) (os : List Offer) → after-run r os .replica i .N s < after-run r os .replica s .N s
-    → Plausible i s (after-run r os .replica i .C) (getD (after-run r os .log s) (after-run r os .replica i .N s) no-message)
+-- Refusal 10 does not occur in a run of which no accepted step is one that refusal 4 covers: the message that waits for card i on the link from s is plausible to i,
+-- whatever its counter.
+pub run-plausible : (r i s most : ℕ) (os : List Offer) → StepsWithin most r os fresh-chassis
+    → after-run r os .replica i .N s < after-run r os .replica s .N s
+    → Plausible most i s (after-run r os .replica i .C) (getD (after-run r os .log s) (after-run r os .replica i .N s) no-message)
 run-plausible = refusals.run-plausible
 
--- Refusal 2 does not occur in a run by amounts of 1: while no card has made more than `most` messages, every row of every card is well-formed.
-pub run-well-formed : (r q i most : ℕ) (os : List Offer) → AmountsOne os → ((n : ℕ) → n < r → after-run r os .replica n .N n ≤ most)
+-- Nor does refusal 2: every row of every card is well-formed.
+pub run-well-formed : (r q i most : ℕ) (os : List Offer) → StepsWithin most r os fresh-chassis
     → (cards : ℕ) → let b = after-run r os .replica i in WellFormedRow most cards i (b .C) (b .N) (b .entry q)
 run-well-formed = refusals.run-well-formed
 

@@ -18,7 +18,7 @@ use Rattle.protocol.specs.ClearClaims.{cleared-is-cancelled}
 abbrev offered : Step → Offer
 offered s = record { step = s; willing = true }
 
--- "(1,0,0) (3,1,0) (2,1,0) (1,0,0)", then both cards take what waits: card 1 clears card 0's first count and has not seen the second
+-- "(1,0,0,1) (3,1,0,0) (2,1,0,0) (1,0,0,1)", then both cards take what waits: card 1 clears card 0's first count and has not seen the second
 abbrev pub listing : List Offer
 listing = map offered (count 0 0 1 ∷ deliver 1 0 ∷ clear 1 0 ∷ count 0 0 1 ∷ deliver 0 1 ∷ deliver 1 0 ∷ [])
 
@@ -60,7 +60,7 @@ second-was-not w =
     let on : enabled 2 (clear (w .card) 0) (after-run 2 (w .before)) ≡ true = rw (w .is-clear) at (and-right (w .offer .willing) _ (w .was-accepted)) in
     false≢true (sym (nowhere (w .card) (ltb-true (w .card) 2 on)) ∙ cleared-is-cancelled 2 0 listing (name 0 2) w)
 
--- "(1,0,0) (3,1,0) (2,1,0) (3,2,1)": the clear comes to card 2 before the count does
+-- "(1,0,0,1) (3,1,0,0) (2,1,0,0) (3,2,1,0)": the clear comes to card 2 before the count does
 abbrev pub overtaking : List Offer
 overtaking = map offered (count 0 0 1 ∷ deliver 1 0 ∷ clear 1 0 ∷ deliver 2 1 ∷ [])
 

@@ -1,6 +1,6 @@
 -- DEFINITIONS. One entry of a counter's row, and what the two kinds of message do to it: SPECIFICATION 4, with the
 -- lines of Algorithm 1 that each sentence stands for (`Algorithm1` has the lines themselves).
--- An increment has an amount w. In the specification w is 1: read `+ w` as "+ 1" and `p - w` as "p - 1".
+-- An increment is by an amount w, and Algorithm 1's are by 1 (`InARow` compares the two).
 -- The entry is the struct of `src/lib.rt`, so a contract cites these definitions with nothing in between.
 use Prim.Native.Nat.{ℕ, _+_, _-_, max}
 use mathlib.Core.Bool.{Bool, not, cond, _&&_, _||_}
@@ -22,7 +22,7 @@ larger e f = record { p = max (e .p) (f .p); n = max (e .n) (f .n); c = max (e .
 abbrev pub removeIf : Bool → Entry → Entry
 removeIf gone e = cond gone absent e
 
--- ---- "Count: with M[i] absent, send p = C[i] + 1 with start; else p = M[i].p + 1 without." (lines 13 to 16)
+-- ---- "Count by w: with M[i] absent, send p = C[i] + w with start; else p = M[i].p + w without." (lines 13 to 16)
 -- `own` is M[i], `known` is C[i].
 
 abbrev pub count-starts : Entry → Bool
@@ -31,10 +31,10 @@ count-starts own = not (present own)
 abbrev pub count-p : ℕ → ℕ → Entry → ℕ
 count-p w known own = cond (present own) (own .p) known + w
 
--- ---- "Increment from j:"
+-- ---- "Increment from j by w:"
 -- e is M[j], `known` is C[j].
 
--- "c = C[j] + 1. With start, or M[j] absent, M[j] becomes max(M[j], (p, p - 1, c)); else max(M[j], (p, 0, c))." (lines 18 to 23)
+-- "c = C[j] + w. With start, or M[j] absent, M[j] becomes max(M[j], (p, p - w, c)); else max(M[j], (p, 0, c))." (lines 18 to 23)
 abbrev pub raised : ℕ → ℕ → Bool → ℕ → Entry → Entry
 raised w p start known e = larger e (record { p = p; n = cond (start || not (present e)) (p - w) 0; c = known + w })
 

@@ -1,6 +1,5 @@
 -- DEFINITIONS. The ledger (SPECIFICATION 7), each of its sentences quoted above what says it, in that order but for one thing:
 -- how the ledger is fed comes after the three steps, since a definition stands above its use.
--- A count has an amount w and makes w names. In the specification w is 1: "a new name".
 use Prim.Native.Nat.{ℕ, zero, suc, max}
 use mathlib.Core.Bool.{Bool, true, false, not, cond, _||_}
 use mathlib.Core.List.{List, [], _∷_, _++_}
@@ -8,7 +7,7 @@ use lib.Dec.{eqb}
 use Rattle.protocol.specs.Functions.{put, bits}
 use Rattle.protocol.specs.Names.{Name, join, names-after, names-up-to, tally, has, latest, beyond}
 
--- "1 count (card, counter), 2 clear (card, counter), 3 deliver (receiver, sender)"; a count's amount is its third number
+-- "1 count (card, counter), 2 clear (card, counter), 3 deliver (receiver, sender)"; the third number of a count is its amount
 pub data Step : Type 0 where
   count : ℕ → ℕ → ℕ → Step
   clear : ℕ → ℕ → Step
@@ -37,8 +36,8 @@ pub record Ledger : Type 0 where
 abbrev pub empty-ledger : Ledger
 empty-ledger = record { received = λ i. []; cancelled = λ i. []; queue = λ s i. [] }
 
--- ---- "Count by i: a new name. If no name of i is received and uncancelled at i, the message also cancels all earlier names of i."
--- The rule is looked at before the new name joins. Card i has received all its own names, so the latest of them is the last one made.
+-- ---- "Count by i, of w: w new names, with one message. If no name of i is received and uncancelled at i, the message also cancels all earlier names of i."
+-- The rule is looked at before the new names join. Card i has received all its own names, so the latest of them is the last one made.
 unfoldable pub count-item : ℕ → ℕ → ℕ → Ledger → Item
 count-item q i w l =
     let earlier = latest i (l .received i) in
@@ -91,7 +90,7 @@ some-item (it ∷ rest) = true
 abbrev pub link-waits : ℕ → ℕ → Ledger → Bool
 link-waits i s l = some-item (l .queue s i)
 
--- "An increment joins received, its cancellations join cancelled.": card i applies an item
+-- "An increment's names join received, its cancellations join cancelled.": card i applies an item
 unfoldable pub applied : ℕ → Item → Ledger → Ledger
 applied i it l = record {
   received = put i (join (it .adds) (l .received i)) (l .received);

@@ -17,13 +17,13 @@ use Rattle.protocol.specs.Links.{link-counters}
 use Rattle.protocol.specs.Theorem.{run-invariant}
 use Rattle.protocol.specs.AloneTurns.{belongs-to}
 
--- "joins received", "join cancelled": no name ever leaves a set.
+-- "join received", "join cancelled": no name ever leaves a set.
 pub sets-only-grow : (r q : ℕ) (ss : List Step) (flags : List Bool) (l : Ledger) (i : ℕ) (n : Name)
     → (has (l .received i) n ≡ true → has (after-steps r q ss flags l .received i) n ≡ true)
     × (has (l .cancelled i) n ≡ true → has (after-steps r q ss flags l .cancelled i) n ≡ true)
 sets-only-grow r q ss flags l i n = let h = after-steps-grows r q ss flags l in (h .received i n, h .cancelled i n)
 
--- "Count by i: a new name." No card has one of the names of a count in either set, card i's received set gains just these, no other card's sets move, and the value at
+-- "Count by i, of w: w new names, with one message." No card has one of the names of a count in either set, card i's received set gains just these, no other card's sets move, and the value at
 -- card i rises by the amount.
 pub count-adds-new-names : (r q i w : ℕ) (ss : List Step) (flags : List Bool)
     → let l = after-steps r q ss flags empty-ledger in

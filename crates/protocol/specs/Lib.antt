@@ -19,7 +19,6 @@ pub mod Alone
 pub mod OneClears
 pub mod Increments
 pub mod InARow
-pub mod AmountRows
 pub mod Singly
 pub mod RoundRobin
 pub mod Pending
@@ -70,6 +69,7 @@ pub mod Theorem
 -- What else the invariant gives.
 pub mod RunsLaws
 pub mod Links
+pub mod OwnBounded
 pub mod Refusals
 -- One counter's own steps alone.
 pub mod AloneLedgers
@@ -78,11 +78,10 @@ pub mod AloneTurns
 -- A counter that one card alone clears.
 pub mod Collects
 pub mod ReadAndClearLaws
--- Algorithm 1, w increments in a row; rows with amounts.
+-- Algorithm 1, w increments in a row.
 pub mod InARowLaws
 pub mod InARowRuns
 pub mod SinglyLaws
-pub mod AmountRowLaws
 -- Deliveries in rounds, and when cards agree.
 pub mod RoundRobinLaws
 pub mod RoundRobinMade

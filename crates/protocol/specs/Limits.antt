@@ -12,6 +12,10 @@ most-cards = 16
 abbrev pub most-counters : ℕ
 most-counters = 64
 
+-- "an amount, 1 to 65,535"
+abbrev pub most-amount : ℕ
+most-amount = 65535
+
 -- "Replica length, r, k or own card wrong"
 abbrev pub bad-replica : ℕ
 bad-replica = 1
@@ -24,7 +28,7 @@ bad-row = 2
 abbrev pub bad-counter : ℕ
 bad-counter = 3
 
--- "Own N = MAX"
+-- "Own N = MAX, or own C + w above MAX"
 abbrev pub exhausted : ℕ
 exhausted = 4
 
@@ -71,3 +75,7 @@ log-full = 14
 -- "A log that does not begin with its card's messages, or a receiver's N above its sender's"
 abbrev pub bad-log : ℕ
 bad-log = 15
+
+-- "Amount out of range, or not 0 in a step that does not count"
+abbrev pub bad-amount : ℕ
+bad-amount = 16

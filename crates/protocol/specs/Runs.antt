@@ -1,10 +1,11 @@
--- DEFINITIONS. What the claims speak of: a run from a fresh chassis, the ledger that was told which of its steps were accepted, and lists whose counts
--- are all by 1.
-use Prim.Native.Nat.{ℕ, _≤_}
+-- DEFINITIONS. What the claims speak of: a run from a fresh chassis, the ledger that was told which of its steps were accepted, and lists of which no
+-- accepted step is one that refusal 4 covers.
+use Prim.Native.Nat.{ℕ, _+_, _≤_, _<_}
+use mathlib.Core.Path.{_≡_}
 use mathlib.Core.Bool.{Bool, true}
 use mathlib.Core.List.{List, [], _∷_, map}
 use Rattle.protocol.specs.Ledger.{Step, count, clear, deliver, Ledger, empty-ledger, after-steps}
-use Rattle.protocol.specs.Chassis.{Chassis, fresh-chassis, Offer, run, answers}
+use Rattle.protocol.specs.Chassis.{Chassis, fresh-chassis, Offer, accepted, stepped, run, answers}
 
 abbrev pub step-of : Offer → Step
 step-of o = o .step
@@ -21,13 +22,15 @@ ledger-after r q os = after-steps r q (map step-of os) (answers r os fresh-chass
 abbrev pub all-accepted {ℓ} : {A : Type ℓ} → List A → List Bool
 all-accepted ss = map (λ s. true) ss
 
--- ---- every count by 1, as in the specification
+-- ---- what refusal 4 does not cover; `most` is MAX
 
-abbrev pub StepByOne : Step → Type 0
-StepByOne (count i q w) = w ≤ 1
-StepByOne (clear i q) = Unit {0}
-StepByOne (deliver i s) = Unit {0}
+-- "Own N = MAX, or own C + w above MAX"
+abbrev pub StepWithin : ℕ → Step → Chassis → Type 0
+StepWithin most (count i q w) st = (st .replica i .N i < most) × (st .replica i .C i + w ≤ most)
+StepWithin most (clear i q) st = st .replica i .N i < most
+StepWithin most (deliver i s) st = Unit {0}
 
-abbrev pub AmountsOne : List Offer → Type 0
-AmountsOne [] = Unit {0}
-AmountsOne (o ∷ os) = StepByOne (o .step) × AmountsOne os
+-- no accepted step of the list is one that 4 covers
+abbrev pub StepsWithin : ℕ → ℕ → List Offer → Chassis → Type 0
+StepsWithin most r [] st = Unit {0}
+StepsWithin most r (o ∷ os) st = (accepted r o st ≡ true → StepWithin most (o .step) st) × StepsWithin most r os (stepped r o st)

@@ -8,6 +8,9 @@ pub const MOST_CARDS: u64 = 16;
 
 pub const MOST_COUNTERS: u64 = 64;
 
+// What one count may count.
+pub const MOST_AMOUNT: u64 = 65535;
+
 // The refusals, in the order of the specification's table.
 pub const BAD_REPLICA: u64 = 1;
 
@@ -38,6 +41,8 @@ pub const NOTHING_WAITING: u64 = 13;
 pub const LOG_FULL: u64 = 14;
 
 pub const BAD_LOG: u64 = 15;
+
+pub const BAD_AMOUNT: u64 = 16;
 
 // A replica's entry for one counter and one card: (p, n, c) of Algorithm 1, zeros where it is absent.
 pub struct Entry {

@@ -48,12 +48,12 @@ unfolding words-after
 after-is b r s m e = ap (λ (x : ℕ). taken-words (layout x (counters b)) (counter-of m) s m b) e
 
 module _ (b : List ℕ) (r q j : ℕ) (h : Receives b r q j) where
-  pub increment-taken : (p : ℕ) (start : Bool)
-      → with-message r j (C-of b j) 1 (set-entry r q j (incremented 1 p start (C-of b j) (entry-of r b q j)) b) ≡ words-after j (increment q 1 p start) b
+  pub increment-taken : (w p : ℕ) (start : Bool)
+      → with-message r j (C-of b j) w (set-entry r q j (incremented w p start (C-of b j) (entry-of r b q j)) b) ≡ words-after j (increment q w p start) b
   unfolding taken-words
-  increment-taken p start =
-      rw (lawful r (counters b) .N-entry q j (incremented 1 p start (C-of b j) (entry-of r b q j)) b (h .card) j (h .card), add-one (N-of r b j))
-      (after-is b r j (increment q 1 p start) (h .row .first))
+  increment-taken w p start =
+      rw (lawful r (counters b) .N-entry q j (incremented w p start (C-of b j) (entry-of r b q j)) b (h .card) j (h .card), add-one (N-of r b j))
+      (after-is b r j (increment q w p start) (h .row .first))
 
   -- a clear, when its entries have been taken: it brings no increment, so C stays
   pub clear-taken : (es : List ClearEntry) (b′ : List ℕ) → CardsBelow r es → b′ ≡ cleared-words (layout r (counters b)) q es b

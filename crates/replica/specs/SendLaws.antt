@@ -3,14 +3,14 @@
 use Prim.Native.Nat.{ℕ, suc, _+_, _-_, _≤_, _<_}
 use mathlib.Core.Path.{_≡_, refl, sym, ap, _∙_}
 use mathlib.Core.Logic.{_≢_}
-use mathlib.Core.Bool.{Bool}
+use mathlib.Core.Bool.{Bool, true}
 use mathlib.Core.List.{List, [], _∷_, _++_}
 use native.Mathlib.Omega.{arith}
 use lib.ListN.{length, take, set, replicate, length-append}
 use lib.Seq.{take-append-seam, set-append-seam, append-snoc}
 use lib.Dec.{leb}
 use borrow.Author.Tests.{le-leb, lt-leb, ne-eqb}
-use Rattle.protocol.specs.Limits.{MAX, most-cards, short-output}
+use Rattle.protocol.specs.Limits.{MAX, most-cards, most-amount, short-output}
 use Rattle.protocol.specs.Checks.{Check, or-else, checked, first-failing}
 use Rattle.protocol.specs.ChecksLaws.{first-refuses, first-passes, all-accepts, checked-append}
 use Rattle.protocol.specs.declared.Entry.{Entry}
@@ -20,14 +20,15 @@ use Rattle.protocol.specs.Chassis.{Message, increment, clearing, count-message,
 use Rattle.protocol.specs.StoreLaws.{CardsBelow, shown}
 use Rattle.wire.specs.declared.Message as wire
 use Rattle.wire.specs.Message as form
-use Rattle.wire.specs.Message.{clear-kind, message-bytes, no-entry, over}
+use Rattle.wire.specs.Message.{version-2, clear-kind, message-bytes, no-entry, over}
 use Rattle.replica_model.specs.declared.Sent.{Sent}
 use Rattle.replica_model.specs.Layout.{cards, own-card, C-of, N-of, entry-of}
-use Rattle.replica_model.specs.Format.{format-1, on-wire, size-of}
-use Rattle.replica_model.specs.Calls.{SendOutcome, making-checks, not-sent, sent-with, send-with, count-of, clear-of, clear-on, with-value, with-value-read, read-and-clear-on, words-after}
+use Rattle.replica_model.specs.Format.{format-2, on-wire, size-of}
+use Rattle.replica_model.specs.Calls.{SendOutcome, is-amount, making-checks, not-sent, sent-with, send-with, count-of, clear-of, clear-on, with-value, with-value-read, read-and-clear-on, words-after}
 use Rattle.replica_model.specs.Senders.{Sending}
 use Rattle.replica_model.specs.AcceptedCalls.{sending-facts}
 use Rattle.replica_model.specs.PresentLaws.{present-few, present-below}
+use Rattle.replica_model.specs.RowLaws.{tests}
 use Rattle.replica.specs.WordsLaws.{RowInside}
 use Rattle.replica.specs.Effects.{Receives}
 
@@ -37,50 +38,58 @@ no-sent number = record { number = number; sequence = 0; length = 0 }
 
 -- ---- the checks before a message is made, and the one behind
 
+pub amount-range : (w : ℕ) → is-amount w ≡ true → (1 ≤ w) × (w ≤ most-amount)
+amount-range w h = simp tests at h
+
 -- what is left of the call where those before have passed: "5", and the message m is sent
 abbrev room-check : List ℕ → Message → List Check
 room-check out m = or-else (leb (size-of m) (length out)) short-output ∷ []
 
 abbrev pub with-room : List ℕ → List ℕ → Message → SendOutcome
-with-room b out m = checked (λ n. not-sent n b out) (room-check out m) (sent-with format-1 b out m)
+with-room b out m = checked (λ n. not-sent n b out) (room-check out m) (sent-with format-2 b out m)
 
-module _ (b : List ℕ) (q : ℕ) where
-  pub sends : first-failing (making-checks b q) ≡ 0 → Sending b q
-  sends none = sending-facts b q (first-passes (making-checks b q) refl none)
+module _ (b : List ℕ) (q : ℕ) (asked : Bool) (w : ℕ) where
+  abbrev before : List Check
+  before = making-checks b q asked w
+
+  pub sends : first-failing before ≡ 0 → Sending b q w × (asked ≡ true)
+  sends none = sending-facts b q asked w (first-passes before refl none)
 
   module _ (out : List ℕ) (m : Message) where
-    parts : send-with format-1 b q out m ≡ checked (λ n. not-sent n b out) (making-checks b q) (with-room b out m)
+    parts : send-with format-2 b q asked w out m ≡ checked (λ n. not-sent n b out) before (with-room b out m)
     unfolding send-with
-    parts = checked-append (λ n. not-sent n b out) (making-checks b q) (room-check out m) (sent-with format-1 b out m)
+    parts = checked-append (λ n. not-sent n b out) before (room-check out m) (sent-with format-2 b out m)
 
-    pub send-refused : first-failing (making-checks b q) ≢ 0 → not-sent (first-failing (making-checks b q)) b out ≡ send-with format-1 b q out m
-    send-refused some = first-refuses (λ n. not-sent n b out) (with-room b out m) (making-checks b q) some ∙ sym parts
+    pub send-refused : first-failing before ≢ 0 → not-sent (first-failing before) b out ≡ send-with format-2 b q asked w out m
+    send-refused some = first-refuses (λ n. not-sent n b out) (with-room b out m) before some ∙ sym parts
 
-    pub send-passed : first-failing (making-checks b q) ≡ 0 → with-room b out m ≡ send-with format-1 b q out m
-    send-passed none = sym (parts ∙ all-accepts (λ n. not-sent n b out) (with-room b out m) (making-checks b q) (first-passes (making-checks b q) refl none))
+    pub send-passed : first-failing before ≡ 0 → with-room b out m ≡ send-with format-2 b q asked w out m
+    send-passed none = sym (parts ∙ all-accepts (λ n. not-sent n b out) (with-room b out m) before (first-passes before refl none))
 
 -- ---- a clear with the value read before it
 
 module _ (b : List ℕ) (q : ℕ) (out : List ℕ) where
-  pub read-and-clear-refused : first-failing (making-checks b q) ≢ 0
-      → with-value 0 (not-sent (first-failing (making-checks b q)) b out) ≡ read-and-clear-on b q out
-  unfolding read-and-clear-on clear-on
-  read-and-clear-refused some = rw (ne-eqb (first-failing (making-checks b q)) 0 some) at (ap (with-value-read b q) (send-refused b q out (clear-of b q) some))
+  abbrev before-clear : List Check
+  before-clear = making-checks b q true 0
 
-  pub read-and-clear-passed : first-failing (making-checks b q) ≡ 0 → with-value-read b q (with-room b out (clear-of b q)) ≡ read-and-clear-on b q out
+  pub read-and-clear-refused : first-failing before-clear ≢ 0 → with-value 0 (not-sent (first-failing before-clear) b out) ≡ read-and-clear-on b q out
   unfolding read-and-clear-on clear-on
-  read-and-clear-passed none = ap (with-value-read b q) (send-passed b q out (clear-of b q) none)
+  read-and-clear-refused some = rw (ne-eqb (first-failing before-clear) 0 some) at (ap (with-value-read b q) (send-refused b q true 0 out (clear-of b q) some))
 
-module _ (b : List ℕ) (r q : ℕ) (first : r ≡ cards b) (h : Sending b q) where
+  pub read-and-clear-passed : first-failing before-clear ≡ 0 → with-value-read b q (with-room b out (clear-of b q)) ≡ read-and-clear-on b q out
+  unfolding read-and-clear-on clear-on
+  read-and-clear-passed none = ap (with-value-read b q) (send-passed b q true 0 out (clear-of b q) none)
+
+module _ (b : List ℕ) (r q w : ℕ) (first : r ≡ cards b) (h : Sending b q w) where
   pub row-inside : RowInside b r q
   row-inside = record { right = h .right; first = first; counter = h .counter }
 
   pub own-below : own-card b < r
   own-below = rw first (h .right .own)
 
-  -- the numbers of the own card leave room for one more
-  pub own-numbers : (entry-of r b q (own-card b) .p ≤ MAX) × (C-of b (own-card b) < MAX) × (N-of r b (own-card b) < MAX)
-  own-numbers = rw first (omega (arith, h .row .entry (own-card b) (h .right .own), h .row .C≤N (own-card b) (h .right .own), h .more))
+  -- the numbers of the own card leave room for w increments and one message
+  pub own-numbers : (entry-of r b q (own-card b) .p ≤ MAX) × (C-of b (own-card b) + w ≤ MAX) × (N-of r b (own-card b) < MAX)
+  own-numbers = rw first (omega (arith, h .row .entry (own-card b) (h .right .own), h .room, h .more))
 
   pub sends-receives : Receives b r q (own-card b)
   sends-receives = record { row = row-inside; card = own-below; N-room = omega (arith, own-numbers) }
@@ -99,11 +108,11 @@ module _ (b out : List ℕ) (m : Message) where
 
 -- ---- what count sends
 
--- "with M[i] absent, send p = C[i] + 1 with start; else p = M[i].p + 1 without", from what was found at own card
-pub count-made : (b : List ℕ) (q r own counted p : ℕ) (start : Bool) (e : Entry) → r ≡ cards b → own ≡ own-card b → e ≡ entry-of r b q own → counted ≡ C-of b own
-    → p ≡ count-p 1 counted e → start ≡ count-starts e → increment q 1 p start ≡ count-of b q
+-- "with M[i] absent, send p = C[i] + w with start; else p = M[i].p + w without", from what was found at own card
+pub count-made : (b : List ℕ) (q r own w counted p : ℕ) (start : Bool) (e : Entry) → r ≡ cards b → own ≡ own-card b → e ≡ entry-of r b q own → counted ≡ C-of b own
+    → p ≡ count-p w counted e → start ≡ count-starts e → increment q w p start ≡ count-of b q w
 unfolding count-message shown
-count-made b q r own counted p start e first mine found known next starts = rw (starts, next, known, found, mine, first)
+count-made b q r own w counted p start e first mine found known next starts = rw (starts, next, known, found, mine, first)
 
 -- ---- what clear sends: the present entries, and zeros past them in an array for every card
 
@@ -130,7 +139,7 @@ pub record MadeClear (r q : ℕ) (row : ℕ → Entry) (m : wire.Message) : Type
   pub entries : take (m .len) (m .entries) ≡ present-entries r row
   pub below : CardsBelow r (take (m .len) (m .entries))
 
-pub made-clear : (r q own sequence : ℕ) (row : ℕ → Entry) → r ≤ most-cards → (m : wire.Message) → m ≡ form.clear-message own sequence q (present-entries r row) → MadeClear r q row m
+pub made-clear : (r q own sequence : ℕ) (row : ℕ → Entry) → r ≤ most-cards → (m : wire.Message) → m ≡ form.clear-message version-2 own sequence q (present-entries r row) → MadeClear r q row m
 unfolding form.clear-message
 made-clear r q own sequence row few m made =
     let all = present-entries r row in

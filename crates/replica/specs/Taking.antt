@@ -15,8 +15,8 @@ use Rattle.protocol.specs.Cases.{by-place}
 use Rattle.protocol.specs.Checks.{Check, or-else, checked, first-failing}
 use Rattle.protocol.specs.ChecksLaws.{first-refuses, first-passes, all-accepts, checked-append}
 use Rattle.protocol.specs.declared.ClearEntry.{ClearEntry}
-use Rattle.protocol.specs.Acceptance.{all-entries, entries-of, entry-plausible, plausible}
-use Rattle.protocol.specs.AcceptanceLaws.{known-sender, known-entries}
+use Rattle.protocol.specs.Acceptance.{all-entries, entries-of, increment-plausible, entry-plausible, plausible}
+use Rattle.protocol.specs.AcceptanceLaws.{known-sender, known-entries, increment-facts}
 use Rattle.protocol.specs.Chassis.{counter-of}
 use Rattle.protocol.specs.StoreLaws.{CardsBelow}
 use Rattle.wire.specs.Message.{entry-at, entries-at, entry-length}
@@ -34,6 +34,11 @@ use Rattle.replica.specs.ReadParts.{increment-from}
 
 abbrev pub no-taken : ℕ → Taken
 no-taken number = record { number = number; sequence = 0 }
+
+-- a plausible increment has a p that its amount can be taken from, and leaves C in range
+pub increment-room : (C w p : ℕ) (start : Bool) → increment-plausible C w p start ≡ true → (w ≤ p) × (C + w ≤ MAX)
+increment-room C w p true h = let k = increment-facts C w p true h in omega arith
+increment-room C w p false h = let k = increment-facts C w p false h in omega arith
 
 -- ---- the entries of a clear, one by one
 
@@ -87,9 +92,9 @@ pub record Given (r : ℕ) (m : Received) (q s n : ℕ) (below : Bool) : Type 0 
   pub sequence : m .sequence ≡ n
   pub entries : all-entries (λ e. ltb (e .card) r) (entries-of (m .content)) ≡ below
 
-pub increment-given : (r : ℕ) (h : Header) (body : Increment) → Given r (increment-from h body) (h .counter) (h .sender) (h .sequence) true
+pub increment-given : (r : ℕ) (h : Header) (body : Increment) (amount : ℕ) → Given r (increment-from h body amount) (h .counter) (h .sender) (h .sequence) true
 unfolding all-entries
-increment-given r h body = record { counter = refl; sender = refl; sequence = refl; entries = refl }
+increment-given r h body amount = record { counter = refl; sender = refl; sequence = refl; entries = refl }
 
 module _ (b : List ℕ) (m : Received) where
   -- all but the last
@@ -148,4 +153,4 @@ module _ (b : List ℕ) (m : Received) where
   }
 
   pub C-most : Passed → C-of b (m .sender) ≤ MAX
-  C-most h = omega (arith, h .row .C≤N (m .sender) (h .sender), h .row .N≤MAX (m .sender) (h .sender))
+  C-most h = h .row .C≤MAX (m .sender) (h .sender)

@@ -27,19 +27,20 @@ pub fn beside(value: u64, sent: Sent) -> Cleared
 // The call where every check but the last has passed. Nothing is written before that one. The message, of every present entry (line 29), is made
 // here and not in a function that returns it, which would copy it; the value is summed up on the way.
 fn send_clear(words: &mut [u64], r: usize, q: usize, out: &mut [u8]) -> Cleared
-    requires { ⌜ (r ≡ cards (now words)) × Sending (now words) q ⌝ }
+    requires { ⌜ (r ≡ cards (now words)) × Sending (now words) q 0 ⌝ }
     ensures { λ a. ⌜ _≡_ {A = ClearedOutcome} (record { answer = a; words = now (words .exit); out = now (out .exit) }) (with-value-read (now (words .entry)) q (with-room (now (words .entry)) (now (out .entry)) (clear-of (now (words .entry)) q))) ⌝ }
 {
     let own = words::own_card(words);
     let sequence = words::messages_at(words, r, own) + 1;
     let mut m = Message {
-        version: wire::VERSION,
+        version: wire::VERSION_2,
         kind: wire::CLEAR,
         sender: own as u32,
         sequence,
         counter: q as u32,
         p: 0,
         start: 0,
+        amount: 0,
         len: 0,
         entries: [wire::NO_ENTRY; wire::MOST_ENTRIES],
     };
@@ -62,7 +63,7 @@ fn send_clear(words: &mut [u64], r: usize, q: usize, out: &mut [u8]) -> Cleared
         len += 1;
     }
     m.len = len;
-    let length = wire::encode::length_of(wire::CLEAR, len);
+    let length = wire::encode::length_of(wire::VERSION_2, wire::CLEAR, len);
     if out.len() < length {
         return beside(0, sending::refused(protocol::SHORT_OUTPUT));
     }
@@ -81,7 +82,7 @@ fn send_clear(words: &mut [u64], r: usize, q: usize, out: &mut [u8]) -> Cleared
 pub fn read_and_clear(words: &mut [u64], counter: u64, out: &mut [u8]) -> Cleared
     ensures { λ a. ⌜ _≡_ {A = ClearedOutcome} (record { answer = a; words = now (words .exit); out = now (out .exit) }) (read-and-clear-on (now (words .entry)) counter (now (out .entry))) ⌝ }
 {
-    let number = sending::refusal(words, counter);
+    let number = sending::refusal(words, counter, true, 0);
     if number != 0 {
         return beside(0, sending::refused(number));
     }

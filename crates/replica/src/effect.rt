@@ -37,12 +37,12 @@ fn larger_entry(e: Entry, f: Entry) -> Entry
 }
 
 // Lines 19 to 23: an increment that starts, or that finds no entry, cancels all that its card sent before it.
-fn brought_n(p: u64, start: bool, e: Entry) -> u64
-    requires { ⌜ 1 ≤ p ⌝ }
-    ensures { λ a. ⌜ a ≡ cond (start || not (present e)) (p - 1) 0 ⌝ }
+fn brought_n(amount: u64, p: u64, start: bool, e: Entry) -> u64
+    requires { ⌜ amount ≤ p ⌝ }
+    ensures { λ a. ⌜ a ≡ cond (start || not (present e)) (p - amount) 0 ⌝ }
 {
     if start | !(0 < e.p) {
-        return p - 1;
+        return p - amount;
     }
     0
 }
@@ -67,13 +67,13 @@ fn without_settled(received: u64, e: Entry) -> Entry
     e
 }
 
-// An increment; `received` is C of its sender before it.
-fn incremented_entry(p: u64, start: bool, received: u64, e: Entry) -> Entry
-    requires { ⌜ (1 ≤ p) × (received < last-word) ⌝ }
-    ensures { λ a. ⌜ a ≡ incremented 1 p start received e ⌝ }
+// An increment by an amount; `received` is C of its sender before it.
+fn incremented_entry(amount: u64, p: u64, start: bool, received: u64, e: Entry) -> Entry
+    requires { ⌜ (amount ≤ p) × (received + amount ≤ last-word) ⌝ }
+    ensures { λ a. ⌜ a ≡ incremented amount p start received e ⌝ }
 {
-    let n = brought_n(p, start, e);
-    let c = received + 1;
+    let n = brought_n(amount, p, start, e);
+    let c = received + amount;
     without_finished(c, larger_entry(e, Entry { p, n, c }))
 }
 
@@ -100,15 +100,29 @@ fn receive(words: &mut [u64], r: usize, j: usize, received: u64, increments: u64
     words::set_messages(words, r, j, messages + 1);
 }
 
-// Lines 17 to 26, for an increment of card j on counter q.
-pub(crate) fn apply_increment(words: &mut [u64], r: usize, q: usize, j: usize, p: u64, start: bool)
-    requires { ⌜ Receives (now words) r q j × (1 ≤ p) × (C-of (now words) j < last-word) ⌝ }
-    ensures { λ _. ⌜ now (words .exit) ≡ words-after j (increment q 1 p start) (now (words .entry)) ⌝ }
+// Lines 17 to 26, for an increment of card j on counter q by an amount.
+pub(crate) fn apply_increment(
+    words: &mut [u64],
+    r: usize,
+    q: usize,
+    j: usize,
+    amount: u64,
+    p: u64,
+    start: bool,
+)
+    requires { ⌜ Receives (now words) r q j × (amount ≤ p) × (C-of (now words) j + amount ≤ last-word) ⌝ }
+    ensures { λ _. ⌜ now (words .exit) ≡ words-after j (increment q amount p start) (now (words .entry)) ⌝ }
 {
     let received = words::increments_at(words, j);
     let e = words::entry_at(words, r, q, j);
-    words::put_entry(words, r, q, j, incremented_entry(p, start, received, e));
-    receive(words, r, j, received, 1);
+    words::put_entry(
+        words,
+        r,
+        q,
+        j,
+        incremented_entry(amount, p, start, received, e),
+    );
+    receive(words, r, j, received, amount);
 }
 
 // Lines 32 to 38, for one entry of a clear.

@@ -3,8 +3,12 @@
 use crate::words;
 use replica_model::Sent;
 ghost use mathlib.Core.Path.{_≡_};
+ghost use mathlib.Core.Bool.{true, not, _&&_};
+ghost use Prim.Native.Nat.{_+_, _≤_};
+ghost use lib.Dec.{leb, eqb};
+ghost use Rattle.protocol.specs.Limits.{MAX, most-amount};
 ghost use Rattle.protocol.specs.Checks.{first-failing};
-ghost use Rattle.replica_model.specs.Calls.{making-checks};
+ghost use Rattle.replica_model.specs.Calls.{is-amount, making-checks};
 ghost use Rattle.replica.specs.SendLaws.{no-sent};
 
 pub(crate) fn refused(number: u64) -> Sent
@@ -17,9 +21,25 @@ pub(crate) fn refused(number: u64) -> Sent
     }
 }
 
-// The number of the first check that fails, 0 where none does.
-pub(crate) fn refusal(words: &[u64], counter: u64) -> u64
-    ensures { λ a. ⌜ a ≡ first-failing (making-checks (now (words .entry)) counter) ⌝ }
+// Is it an amount that a count may have?
+pub(crate) fn is_amount(amount: u64) -> bool
+    ensures { λ a. ⌜ a ≡ is-amount amount ⌝ }
+{
+    (1 <= amount) & (amount <= protocol::MOST_AMOUNT)
+}
+
+// Has the card a message left, and so many increments?
+fn is_left(messages: u64, counted: u64, units: u64) -> bool
+    requires { ⌜ (counted ≤ MAX) × (units ≤ most-amount) ⌝ }
+    ensures { λ a. ⌜ a ≡ (not (eqb messages MAX) && leb (counted + units) MAX) ⌝ }
+{
+    (messages != protocol::MAX) & (counted + units <= protocol::MAX)
+}
+
+// The number of the first check that fails, 0 where none does, for a message that counts `units`; `asked` says that its amount is in range.
+pub(crate) fn refusal(words: &[u64], counter: u64, asked: bool, units: u64) -> u64
+    requires { ⌜ (asked ≡ true → units ≤ most-amount) ⌝ }
+    ensures { λ a. ⌜ a ≡ first-failing (making-checks (now (words .entry)) counter asked units) ⌝ }
 {
     if !words::is_right(words) {
         return protocol::BAD_REPLICA;
@@ -29,11 +49,18 @@ pub(crate) fn refusal(words: &[u64], counter: u64) -> u64
     if k <= counter {
         return protocol::BAD_COUNTER;
     }
+    if !asked {
+        return protocol::BAD_AMOUNT;
+    }
     if !words::is_row_well_formed(words, r, words::index(counter)) {
         return protocol::BAD_ROW;
     }
     let own = words::own_card(words);
-    if words::messages_at(words, r, own) == protocol::MAX {
+    if !is_left(
+        words::messages_at(words, r, own),
+        words::increments_at(words, own),
+        units,
+    ) {
         return protocol::EXHAUSTED;
     }
     0

@@ -9,28 +9,31 @@ use wire::reader;
 use wire::reader::Header;
 use wire::reader::Increment;
 ghost use mathlib.Core.Path.{_≡_};
-ghost use mathlib.Core.Bool.{true, cond, not};
+ghost use mathlib.Core.Bool.{true, cond};
 ghost use Prim.Native.Nat.{_≤_};
 ghost use lib.Dec.{ltb};
-ghost use Rattle.protocol.specs.Limits.{MAX};
+ghost use Rattle.protocol.specs.Limits.{MAX, most-amount};
 ghost use Rattle.protocol.specs.Checks.{first-failing};
-ghost use Rattle.protocol.specs.Acceptance.{increment-implausible};
-ghost use Rattle.wire.specs.Message.{clear-kind, reads};
+ghost use Rattle.protocol.specs.Acceptance.{increment-plausible};
+ghost use Rattle.wire.specs.Message.{version-2, clear-kind, reads};
 ghost use Rattle.wire.specs.MessageParts.{header-at};
 ghost use Rattle.replica_model.specs.Layout.{cards, C-of};
-ghost use Rattle.replica_model.specs.Format.{Received, format-1};
+ghost use Rattle.replica_model.specs.Format.{Received, format-2};
 ghost use Rattle.replica_model.specs.Calls.{TakeOutcome, take-on};
 ghost use Rattle.replica_model.specs.ClaimTerms.{Right};
 ghost use Rattle.replica.specs.ReadParts.{increment-from};
 ghost use Rattle.replica.specs.Taking.{no-taken, entry-test, Given, shared-checks, judged};
 
 // `received` is C of the sender.
-fn is_increment_plausible(received: u64, p: u64, start: bool) -> bool
-    requires { ⌜ received ≤ MAX ⌝ }
-    ensures { λ a. ⌜ a ≡ not (increment-implausible received 1 p start) ⌝ }
+fn is_increment_plausible(received: u64, amount: u64, p: u64, start: bool) -> bool
+    requires { ⌜ (received ≤ MAX) × (amount ≤ most-amount) ⌝ }
+    ensures { λ a. ⌜ a ≡ increment-plausible received amount p start ⌝ }
 {
-    let next = received + 1;
-    !((next < p) | (start & (p != next)) | (!start & (p <= 1)))
+    let next = received + amount;
+    if start {
+        return (p == next) & (next <= protocol::MAX);
+    }
+    (amount < p) & (p <= next) & (next <= protocol::MAX)
 }
 
 fn is_card_below(e: ClearEntry, r: usize) -> bool
@@ -95,9 +98,9 @@ fn refusal_of(words: &[u64], counter: u32, sender: u32, sequence: u64, entries_b
 }
 
 // An increment that reads, to a replica that is right. No word is written before the last check.
-fn take_increment(words: &mut [u64], header: Header, body: Increment) -> Taken
-    requires { ⌜ Right (now words) × (1 ≤ body .p) ⌝ }
-    ensures { λ a. ⌜ _≡_ {A = TakeOutcome} (record { answer = a; words = now (words .exit) }) (judged (now (words .entry)) (increment-from header body)) ⌝ }
+fn take_increment(words: &mut [u64], header: Header, body: Increment, amount: u32) -> Taken
+    requires { ⌜ Right (now words) × (amount ≤ most-amount) ⌝ }
+    ensures { λ a. ⌜ _≡_ {A = TakeOutcome} (record { answer = a; words = now (words .exit) }) (judged (now (words .entry)) (increment-from header body amount)) ⌝ }
 {
     let number = refusal_of(words, header.counter, header.sender, header.sequence, true);
     if number != 0 {
@@ -105,12 +108,21 @@ fn take_increment(words: &mut [u64], header: Header, body: Increment) -> Taken
     }
     let sender = header.sender as usize;
     let start = body.start == 1;
+    let amount = amount as u64;
     let received = words::increments_at(words, sender);
-    if !is_increment_plausible(received, body.p, start) {
+    if !is_increment_plausible(received, amount, body.p, start) {
         return refused(protocol::IMPLAUSIBLE);
     }
     let r = words::cards_of(words);
-    effect::apply_increment(words, r, header.counter as usize, sender, body.p, start);
+    effect::apply_increment(
+        words,
+        r,
+        header.counter as usize,
+        sender,
+        amount,
+        body.p,
+        start,
+    );
     Taken {
         number: 0,
         sequence: header.sequence,
@@ -119,8 +131,8 @@ fn take_increment(words: &mut [u64], header: Header, body: Increment) -> Taken
 
 // A clear, likewise. The message is held whole, and made and judged in one loop: a function that it is passed to or returned from copies it.
 fn take_clear(words: &mut [u64], message: &[u8], header: Header) -> Taken
-    requires { ⌜ Right (now words) × (reads (now message) ≡ true) × (header ≡ header-at (now message) 0) × (header .kind ≡ clear-kind) ⌝ }
-    ensures { λ a. ⌜ _≡_ {A = TakeOutcome} (record { answer = a; words = now (words .exit) }) (judged (now (words .entry)) (format-1 .received (now (message .entry)))) ⌝ }
+    requires { ⌜ Right (now words) × (reads version-2 (now message) ≡ true) × (header ≡ header-at (now message) 0) × (header .kind ≡ clear-kind) ⌝ }
+    ensures { λ a. ⌜ _≡_ {A = TakeOutcome} (record { answer = a; words = now (words .exit) }) (judged (now (words .entry)) (format-2 .received (now (message .entry)))) ⌝ }
 {
     let r = words::cards_of(words);
     let own = words::own_card(words);
@@ -130,13 +142,14 @@ fn take_clear(words: &mut [u64], message: &[u8], header: Header) -> Taken
     let count = reader::next_int(message, header.behind);
     let len = count.number as usize;
     let mut m = Message {
-        version: wire::VERSION,
+        version: wire::VERSION_2,
         kind: wire::CLEAR,
         sender: header.sender,
         sequence: header.sequence,
         counter: header.counter,
         p: 0,
         start: 0,
+        amount: 0,
         len,
         entries: [wire::NO_ENTRY; wire::MOST_ENTRIES],
     };
@@ -174,14 +187,14 @@ fn take_clear(words: &mut [u64], message: &[u8], header: Header) -> Taken
 }
 
 // Ruled out: a take that keeps the replica (must-fail/take_keeps_replica), an increment that moves another counter than its own
-// (must-fail/taken_on_another_counter).
+// (must-fail/taken_on_another_counter), and a message of version 1 that is taken (must-fail/version_1_taken).
 pub fn take(words: &mut [u64], message: &[u8]) -> Taken
     ensures { λ a. ⌜ _≡_ {A = TakeOutcome} (record { answer = a; words = now (words .exit) }) (take-on (now (words .entry)) (now (message .entry))) ⌝ }
 {
     if !words::is_right(words) {
         return refused(protocol::BAD_REPLICA);
     }
-    if !decode::reads(message) {
+    if !decode::reads(message, wire::VERSION_2) {
         return refused(protocol::UNREADABLE);
     }
     let header = reader::header_from(message, 0);
@@ -189,5 +202,6 @@ pub fn take(words: &mut [u64], message: &[u8]) -> Taken
         return take_clear(words, message, header);
     }
     let body = reader::increment_from(message, header.behind);
-    take_increment(words, header, body)
+    let amount = reader::next_int(message, body.behind);
+    take_increment(words, header, body, amount.number)
 }

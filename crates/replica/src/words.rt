@@ -194,7 +194,7 @@ fn is_card_well_formed(words: &[u64], r: usize, q: usize, j: usize) -> bool
 {
     let increments = increments_at(words, j);
     let messages = messages_at(words, r, j);
-    if messages < increments {
+    if protocol::MAX < increments {
         return false;
     }
     if protocol::MAX < messages {

@@ -2,19 +2,19 @@
 -- checks, in the specification's order, and a result: the first check that fails gives the number (`Checks` of protocol).
 use Prim.Native.Nat.{ℕ, _+_}
 use mathlib.Core.List.{List, [], _∷_, _++_}
-use mathlib.Core.Bool.{Bool, not, cond, _&&_}
+use mathlib.Core.Bool.{Bool, true, not, cond, _&&_}
 use lib.ListN.{length}
 use lib.Dec.{leb, ltb, eqb}
-use Rattle.protocol.specs.Limits.{MAX, most-cards, most-counters, bad-replica, bad-row, bad-counter, exhausted, short-output, unreadable, bad-card, repeated, early, implausible}
+use Rattle.protocol.specs.Limits.{MAX, most-cards, most-counters, most-amount, bad-replica, bad-row, bad-counter, exhausted, short-output, unreadable, bad-card, repeated, early, implausible, bad-amount}
 use Rattle.protocol.specs.Checks.{Check, or-else, checked}
 use Rattle.protocol.specs.Functions.{count-below}
 use Rattle.protocol.specs.Acceptance.{tables-well-formed, cards-known, plausible}
 use Rattle.protocol.specs.Entry.{present}
 use Rattle.protocol.specs.Chassis.{Replica, Message, count-message, clear-message, read-value, read-holders, counter-of}
 use Rattle.protocol.specs.Store.{shown, taken-words}
-use Rattle.wire.specs.Message.{over}
+use Rattle.wire.specs.Message.{from-one-to, over}
 use Rattle.replica_model.specs.Layout.{cards, counters, own-card, replica-length, C-of, N-of, entry-of, layout, fresh-words}
-use Rattle.replica_model.specs.Format.{Received, Format, format-1}
+use Rattle.replica_model.specs.Format.{Received, Format, format-2}
 pub use Rattle.replica_model.specs.declared.Reading.{Reading}
 pub use Rattle.replica_model.specs.declared.Sent.{Sent}
 pub use Rattle.replica_model.specs.declared.Cleared.{Cleared}
@@ -89,7 +89,7 @@ is-quiet a = eqb (a .number) 0 && eqb (a .holders) 0
 unfoldable pub read-on : List ℕ → ℕ → Reading
 read-on b q = checked no-reading (read-checks b q) (reading b q)
 
--- ---- count and clear: "1, 3, 2, 4, 5"
+-- ---- count: "1, 3, 16, 2, 4, 5"; clear: "1, 3, 2, 4, 5"
 
 -- what the call answers, and what it leaves in the replica and in the output
 pub record SendOutcome : Type 0 where
@@ -97,17 +97,23 @@ pub record SendOutcome : Type 0 where
   pub words : List ℕ
   pub out : List ℕ
 
--- of a card that has made N messages: "4"
-abbrev pub left-checks : ℕ → List Check
-left-checks N = or-else (not (eqb N MAX)) exhausted ∷ []
+-- "an amount, 1 to 65,535"
+abbrev pub is-amount : ℕ → Bool
+is-amount w = from-one-to most-amount w
 
--- before a message is made: "1, 3, 2, 4"
-abbrev pub making-checks : List ℕ → ℕ → List Check
-making-checks b q = read-checks b q ++ left-checks (N-of (cards b) b (own-card b))
+-- of a card that has made N messages and counted C, and counts w more: "4"
+abbrev pub left-checks : ℕ → ℕ → ℕ → List Check
+left-checks N C w = or-else (not (eqb N MAX) && leb (C + w) MAX) exhausted ∷ []
+
+-- before a message that counts w is made: "1, 3, 16, 2, 4", where `asked` says that the amount is in range. A clear counts 0, and its amount is not asked for.
+abbrev pub making-checks : List ℕ → ℕ → Bool → ℕ → List Check
+making-checks b q asked w =
+    or-else (right b) bad-replica ∷ or-else (ltb q (counters b)) bad-counter ∷ or-else asked bad-amount ∷ or-else (row-well-formed b q) bad-row
+    ∷ left-checks (N-of (cards b) b (own-card b)) (C-of b (own-card b)) w
 
 -- and 5, for a message of `size` bytes
-abbrev pub send-checks : List ℕ → ℕ → List ℕ → ℕ → List Check
-send-checks b q out size = making-checks b q ++ (or-else (leb size (length out)) short-output ∷ [])
+abbrev pub send-checks : List ℕ → ℕ → Bool → ℕ → List ℕ → ℕ → List Check
+send-checks b q asked w out size = making-checks b q asked w ++ (or-else (leb size (length out)) short-output ∷ [])
 
 abbrev pub not-sent : ℕ → List ℕ → List ℕ → SendOutcome
 not-sent number b out = record { answer = record { number = number; sequence = 0; length = 0 }; words = b; out = out }
@@ -124,22 +130,22 @@ sent-with F b out m = record {
   out = over (F .written (own-message b m)) out;
 }
 
-unfoldable pub send-with : Format → List ℕ → ℕ → List ℕ → Message → SendOutcome
-send-with F b q out m = checked (λ n. not-sent n b out) (send-checks b q out (F .size m)) (sent-with F b out m)
+unfoldable pub send-with : Format → List ℕ → ℕ → Bool → ℕ → List ℕ → Message → SendOutcome
+send-with F b q asked w out m = checked (λ n. not-sent n b out) (send-checks b q asked w out (F .size m)) (sent-with F b out m)
 
--- "with M[i] absent, send p = C[i] + 1 with start; else p = M[i].p + 1 without. Apply it to the own replica in the same call."
-abbrev pub count-of : List ℕ → ℕ → Message
-count-of b q = count-message (own-card b) q 1 (state b)
+-- "with M[i] absent, send p = C[i] + w with start; else p = M[i].p + w without. Apply it to the own replica in the same call."
+abbrev pub count-of : List ℕ → ℕ → ℕ → Message
+count-of b q w = count-message (own-card b) q w (state b)
 
-unfoldable pub count-on : List ℕ → ℕ → List ℕ → SendOutcome
-count-on b q out = send-with format-1 b q out (count-of b q)
+unfoldable pub count-on : List ℕ → ℕ → ℕ → List ℕ → SendOutcome
+count-on b q w out = send-with format-2 b q (is-amount w) w out (count-of b q w)
 
 -- "send every present entry's (j, p, c), and apply. An empty clear is sent too."
 abbrev pub clear-of : List ℕ → ℕ → Message
 clear-of b q = clear-message (cards b) q (state b)
 
 unfoldable pub clear-on : List ℕ → ℕ → List ℕ → SendOutcome
-clear-on b q out = send-with format-1 b q out (clear-of b q)
+clear-on b q out = send-with format-2 b q true 0 out (clear-of b q)
 
 -- ---- read and clear in one call: "clears, and returns the value beside what clear returns"
 
@@ -198,4 +204,4 @@ unfoldable pub take-with : Format → List ℕ → List ℕ → TakeOutcome
 take-with F b bytes = checked (λ n. not-taken n b) (take-checks F b bytes) (taken-with b (F .received bytes))
 
 abbrev pub take-on : List ℕ → List ℕ → TakeOutcome
-take-on b bytes = take-with format-1 b bytes
+take-on b bytes = take-with format-2 b bytes

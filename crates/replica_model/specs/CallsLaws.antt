@@ -3,18 +3,19 @@ use Prim.Native.Nat.{ℕ, _<_}
 use mathlib.Core.Path.{_≡_, refl, ap}
 use mathlib.Core.Logic.{_≢_}
 use mathlib.Core.List.{List}
+use mathlib.Core.Bool.{Bool, true}
 use borrow.Author.Tests.{lt-ltb, eq-eqb, ne-eqb}
 use Rattle.protocol.specs.Checks.{Check, Decided}
 use Rattle.protocol.specs.ChecksLaws.{decided}
 use Rattle.protocol.specs.Chassis.{Message, count-message, clear-message}
 use Rattle.protocol.specs.Store.{shown}
-use Rattle.wire.specs.Message.{increment-length, clear-length}
+use Rattle.wire.specs.Message.{version-2, increment-length, clear-length}
 use Rattle.replica_model.specs.Layout.{cards, counters, entry-of, fresh-words}
-use Rattle.replica_model.specs.Format.{Format, format-1, size-of}
+use Rattle.replica_model.specs.Format.{Format, format-2, size-of}
 use Rattle.replica_model.specs.PresentLaws.{present-length}
 use Rattle.replica_model.specs.ClaimTerms.{Right, RowOf}
 use Rattle.replica_model.specs.RowLaws.{right-from, row-from}
-use Rattle.replica_model.specs.Calls.{open-checks, open-on, read-checks, no-reading, reading, read-on, send-checks, SendOutcome, not-sent, sent-with, send-with, holders, count-of, count-on, clear-of, clear-on, with-value, read-and-clear-on, take-checks, not-taken, taken-with, take-with}
+use Rattle.replica_model.specs.Calls.{open-checks, open-on, is-amount, read-checks, no-reading, reading, read-on, send-checks, SendOutcome, not-sent, sent-with, send-with, holders, count-of, count-on, clear-of, clear-on, with-value, read-and-clear-on, take-checks, not-taken, taken-with, take-with}
 
 pub open-decided : (b : List ℕ) (r k own : ℕ)
     → Decided (λ o. o .number) (λ n. record { number = n; words = b }) (open-checks b r k own) (record { number = 0; words = fresh-words r k own }) (open-on b r k own)
@@ -33,28 +34,28 @@ pub read-passes : (b : List ℕ) (q : ℕ) → Right b → q < counters b → Ro
 read-passes b q f l w = read-decided b q .accepted (read-accepted b q f l w)
 
 -- a message that is sent, whatever it says
-pub send-decided : (F : Format) (b : List ℕ) (q : ℕ) (out : List ℕ) (m : Message)
-    → Decided (λ o. o .answer .number) (λ n. not-sent n b out) (send-checks b q out (F .size m)) (sent-with F b out m) (send-with F b q out m)
+pub send-decided : (F : Format) (b : List ℕ) (q : ℕ) (asked : Bool) (w : ℕ) (out : List ℕ) (m : Message)
+    → Decided (λ o. o .answer .number) (λ n. not-sent n b out) (send-checks b q asked w out (F .size m)) (sent-with F b out m) (send-with F b q asked w out m)
 unfolding send-with
-send-decided F b q out m = decided (λ o. o .answer .number) _ (λ n. refl) _ refl (send-checks b q out (F .size m)) refl
+send-decided F b q asked w out m = decided (λ o. o .answer .number) _ (λ n. refl) _ refl (send-checks b q asked w out (F .size m)) refl
 
-pub count-size : (b : List ℕ) (q : ℕ) → size-of (count-of b q) ≡ increment-length
+pub count-size : (b : List ℕ) (q w : ℕ) → size-of (count-of b q w) ≡ increment-length version-2
 unfolding count-message
-count-size b q = refl
+count-size b q w = refl
 
-pub count-decided : (b : List ℕ) (q : ℕ) (out : List ℕ)
-    → Decided (λ o. o .answer .number) (λ n. not-sent n b out) (send-checks b q out increment-length) (sent-with format-1 b out (count-of b q)) (count-on b q out)
+pub count-decided : (b : List ℕ) (q w : ℕ) (out : List ℕ)
+    → Decided (λ o. o .answer .number) (λ n. not-sent n b out) (send-checks b q (is-amount w) w out (increment-length version-2)) (sent-with format-2 b out (count-of b q w)) (count-on b q w out)
 unfolding count-on count-message
-count-decided b q out = send-decided format-1 b q out (count-of b q)
+count-decided b q w out = send-decided format-2 b q (is-amount w) w out (count-of b q w)
 
 pub clear-size : (b : List ℕ) (q : ℕ) → size-of (clear-of b q) ≡ clear-length (holders b q)
 unfolding clear-message shown
 clear-size b q = rw (present-length (entry-of (cards b) b q) (cards b))
 
 pub clear-decided : (b : List ℕ) (q : ℕ) (out : List ℕ)
-    → Decided (λ o. o .answer .number) (λ n. not-sent n b out) (send-checks b q out (clear-length (holders b q))) (sent-with format-1 b out (clear-of b q)) (clear-on b q out)
+    → Decided (λ o. o .answer .number) (λ n. not-sent n b out) (send-checks b q true 0 out (clear-length (holders b q))) (sent-with format-2 b out (clear-of b q)) (clear-on b q out)
 unfolding clear-on
-clear-decided b q out = rw (← (clear-size b q)) (send-decided format-1 b q out (clear-of b q))
+clear-decided b q out = rw (← (clear-size b q)) (send-decided format-2 b q true 0 out (clear-of b q))
 
 -- a value beside a call that sends: v where it is accepted, 0 where it is refused
 pub value-decided : (v w : ℕ) (b out : List ℕ) (cs : List Check) (result done : SendOutcome)
@@ -68,8 +69,8 @@ value-decided v w b out cs result done taken none d = record {
 }
 
 pub read-and-clear-decided : (b : List ℕ) (q : ℕ) (out : List ℕ)
-    → Decided (λ o. o .answer .number) (λ n. with-value 0 (not-sent n b out)) (send-checks b q out (clear-length (holders b q)))
-    (with-value (reading b q .value) (sent-with format-1 b out (clear-of b q))) (read-and-clear-on b q out)
+    → Decided (λ o. o .answer .number) (λ n. with-value 0 (not-sent n b out)) (send-checks b q true 0 out (clear-length (holders b q)))
+    (with-value (reading b q .value) (sent-with format-2 b out (clear-of b q))) (read-and-clear-on b q out)
 unfolding read-and-clear-on
 read-and-clear-decided b q out =
     value-decided (reading b q .value) _ b out _ _ (clear-on b q out)

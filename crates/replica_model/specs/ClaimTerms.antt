@@ -14,9 +14,9 @@ use Rattle.protocol.specs.Rows.{WellFormedRow}
 use Rattle.protocol.specs.Chassis.{Message, increment, clearing, taken, counter-of, units-of}
 use Rattle.protocol.specs.Store.{Shows}
 use Rattle.wire.specs.declared.Message as wire
-use Rattle.wire.specs.Message.{message-at, message-bytes, in-range, reads, longest-message}
+use Rattle.wire.specs.Message.{version-2, message-at, message-bytes, in-range, reads, longest-message}
 use Rattle.replica_model.specs.Layout.{cards, counters, own-card, head-of, replica-length, C-of, N-of, entry-of, layout}
-use Rattle.replica_model.specs.Format.{format-1, on-wire}
+use Rattle.replica_model.specs.Format.{format-2, on-wire}
 use Rattle.replica_model.specs.Calls.{right, state, row-well-formed, read-on, address-checks}
 
 -- ---- right and well-formed, in plain numbers
@@ -44,7 +44,7 @@ AllZeros b q = (j : ℕ) → j < cards b → entry-of (cards b) b q j ≡ absent
 
 -- bytes that pass every check of take before the sequence is looked at: 1, 6, 3, 2 and 7
 abbrev pub Addressed : List ℕ → List ℕ → Type 0
-Addressed b bytes = AllPass (or-else (right b) bad-replica ∷ or-else (reads bytes) unreadable ∷ address-checks b (format-1 .received bytes))
+Addressed b bytes = AllPass (or-else (right b) bad-replica ∷ or-else (reads version-2 bytes) unreadable ∷ address-checks b (format-2 .received bytes))
 
 -- the own card's next message on the wire
 abbrev pub sent-as : List ℕ → Message → wire.Message
@@ -66,7 +66,7 @@ abbrev pub NotNamed : ℕ → ℕ → Message → Type 0
 NotNamed j s (increment q w p start) = j ≢ s
 NotNamed j s (clearing q ts) = NotAmong j ts
 
--- the sender's N rises by one, its C by one for an increment; no other C and N moves, no other counter's entry, and of the message's counter no entry that it does not name
+-- the sender's N rises by one, its C by the amount of an increment; no other C and N moves, no other counter's entry, and of the message's counter no entry that it does not name
 pub record OnlyMoves (b : List ℕ) (s : ℕ) (m : Message) (after : List ℕ) : Type 0 where
   pub N-rises : N-of (cards b) after s ≡ N-of (cards b) b s + 1
   pub C-rises : C-of after s ≡ C-of b s + units-of m
@@ -85,11 +85,11 @@ pub record Isolates (b : List ℕ) (q : ℕ) (after : List ℕ) : Type 0 where
   pub rows-stay : (q′ j : ℕ) → q′ < counters b → j < cards b → q′ ≢ q → entry-of (cards b) after q′ j ≡ entry-of (cards b) b q′ j
   pub reads-stay : (q′ : ℕ) → q′ < counters b → q′ ≢ q → row-well-formed b q′ ≡ true → read-on after q′ ≡ read-on b q′
 
--- a message that can be written, in `size` bytes that read as itself: in range, and with a place for every card's entry
+-- a message that can be written, in `size` bytes of version 2 that read as itself: in range, and with a place for every card's entry
 pub record Writable (x : wire.Message) (size : ℕ) : Type 0 where
   pub ranges : in-range x ≡ true
   pub whole : length (x .entries) ≡ most-cards
   pub long : length (message-bytes x) ≡ size
   pub short : size ≤ longest-message
-  pub reads-well : reads (message-bytes x) ≡ true
-  pub reads-same : message-at (message-bytes x) ≡ x
+  pub reads-well : reads version-2 (message-bytes x) ≡ true
+  pub reads-same : message-at version-2 (message-bytes x) ≡ x

@@ -1,19 +1,20 @@
 -- CLAIMS. The scenarios of a single card (SPECIFICATION 10.1), computed on the calls' definitions.
-use Prim.Native.Nat.{ℕ}
+use Prim.Native.Nat.{ℕ, _+_, _-_}
 use mathlib.Core.Path.{_≡_, refl}
 use mathlib.Core.List.{List, [], _∷_}
 use mathlib.Core.Bool.{Bool, true, not, _&&_}
 use lib.ListN.{length, replicate}
 use lib.Dec.{eqb}
+use Rattle.protocol.specs.Limits.{MAX}
 use Rattle.protocol.specs.Tables.{put, sum, bits}
 use Rattle.protocol.specs.Entry.{incremented, cleared}
 use Rattle.protocol.specs.Chassis.{count-message, present-entries, clear-message, read-value, read-holders}
 use Rattle.protocol.specs.StoreLaws.{cleared-words, taken-words, shown}
 use Rattle.protocol.specs.Functions.{all-below, count-below}
-use Rattle.protocol.specs.Acceptance.{tables-well-formed, entry-well-formed, card-well-formed, all-entries, cards-known, increment-implausible, entry-plausible, plausible}
+use Rattle.protocol.specs.Acceptance.{tables-well-formed, entry-well-formed, card-well-formed, all-entries, cards-known, increment-plausible, entry-plausible, plausible}
 use Rattle.wire.specs.Number.{number-at, bytes-of}
 use Rattle.wire.specs.Message as form
-use Rattle.wire.specs.Message.{header-bytes, increment-bytes, entry-bytes, entries-bytes, clear-bytes, message-bytes, header-in-range, increment-in-range, clear-in-range, entry-in-range, entries-in-range, unused, in-range, increment-message, entries-at, called-length, message-at, reads}
+use Rattle.wire.specs.Message.{version-1, version-2, header-bytes, increment-bytes, entry-bytes, entries-bytes, clear-bytes, message-bytes, header-in-range, amount-in-range, increment-in-range, clear-in-range, entry-in-range, entries-in-range, unused, in-range, increment-message, entries-at, called-length, message-at, reads}
 use Rattle.replica_model.specs.Layout.{replica-length, C-of, N-of, entry-of, fresh-words}
 use Rattle.replica_model.specs.Calls.{replica-fits, words-after, send-with, take-with, sizes-in-range, right, row-well-formed, open-on, reading, is-quiet, read-on, count-on, clear-on, read-and-clear-on, take-on}
 use Rattle.replica_model.specs.Format.{content}
@@ -23,7 +24,7 @@ room n = replicate n 0
 
 -- card 1 of two, with two counters: what it answers to card 0's first increment with another sequence
 answer-to : List ℕ → ℕ → ℕ
-answer-to b sequence = take-on b (message-bytes (increment-message 0 sequence 0 1 1)) .answer .number
+answer-to b sequence = take-on b (message-bytes (increment-message version-2 0 sequence 0 1 1 1)) .answer .number
 
 -- "Clear on a fresh replica: 28 bytes, N 1, C 0."
 clear-on-fresh : Bool
@@ -36,14 +37,14 @@ clear-on-fresh =
 sequences : Bool
 sequences =
     let b = fresh-words 2 2 1 in
-    let taken = take-on b (message-bytes (increment-message 0 1 0 1 1)) in
+    let taken = take-on b (message-bytes (increment-message version-2 0 1 0 1 1 1)) in
     eqb (answer-to b 0) 6 && eqb (answer-to b 2) 9 && eqb (taken .answer .number) 0 && eqb (answer-to (taken .words) 1) 8
 
--- "35 output bytes: 5; 36: accepted."
+-- "39 output bytes: 5; 40: accepted."
 output-lengths : Bool
 output-lengths =
     let b = fresh-words 2 2 0 in
-    eqb (count-on b 0 (room 35) .answer .number) 5 && eqb (count-on b 0 (room 36) .answer .number) 0
+    eqb (count-on b 0 1 (room 39) .answer .number) 5 && eqb (count-on b 0 1 (room 40) .answer .number) 0
 
 -- "k = 64 accepted, 65 is 1."
 counter-limits : Bool
@@ -52,29 +53,29 @@ counter-limits =
     let c = room (replica-length 1 65) in
     eqb (open-on b 1 64 0 .number) 0 && eqb (open-on c 1 65 0 .number) 1
 
--- "(1,0,0) (1,0,0) (1,0,1): counter 1 has (3,2,3), value 1."
+-- "(1,0,0,1) (1,0,0,1) (1,0,1,1): counter 1 has (3,2,3), value 1."
 third-count : Bool
 third-count =
-    let b = count-on (fresh-words 2 2 0) 0 (room 36) .words in
-    let c = count-on b 0 (room 36) .words in
-    let d = count-on c 1 (room 36) .words in
+    let b = count-on (fresh-words 2 2 0) 0 1 (room 40) .words in
+    let c = count-on b 0 1 (room 40) .words in
+    let d = count-on c 1 1 (room 40) .words in
     let e = entry-of 2 d 1 0 in
     eqb (e .p) 3 && eqb (e .n) 2 && eqb (e .c) 3 && eqb (read-on d 1 .value) 1
 
--- "(1,0,0) (2,0,0) (1,0,0): (2,1,2), value 1."
+-- "(1,0,0,1) (2,0,0,0) (1,0,0,1): (2,1,2), value 1."
 count-clear-count : Bool
 count-clear-count =
-    let b = count-on (fresh-words 2 2 0) 0 (room 36) .words in
+    let b = count-on (fresh-words 2 2 0) 0 1 (room 40) .words in
     let c = clear-on b 0 (room 48) .words in
-    let d = count-on c 0 (room 36) .words in
+    let d = count-on c 0 1 (room 40) .words in
     let e = entry-of 2 d 0 0 in
     eqb (e .p) 2 && eqb (e .n) 1 && eqb (e .c) 2 && eqb (read-on d 0 .value) 1
 
 -- Two counts, then read-and-clear: one holder, so 48 bytes; into 47 it answers 5 and no value. Right after it the value is 0.
 count-count-read-and-clear : Bool
 count-count-read-and-clear =
-    let b = count-on (fresh-words 2 2 0) 0 (room 36) .words in
-    let c = count-on b 0 (room 36) .words in
+    let b = count-on (fresh-words 2 2 0) 0 1 (room 40) .words in
+    let c = count-on b 0 1 (room 40) .words in
     let done = read-and-clear-on c 0 (room 48) in
     let short = read-and-clear-on c 0 (room 47) in
     eqb (done .answer .number) 0 && eqb (done .answer .value) 2 && eqb (done .answer .sequence) 3 && eqb (done .answer .length) 48 && eqb (read-on (done .words) 0 .value) 0
@@ -85,17 +86,49 @@ count-count-read-and-clear =
 value-0-and-quiet : Bool
 value-0-and-quiet =
     let fresh = fresh-words 3 1 2 in
-    let b = take-on fresh (message-bytes (form.clear-message 1 1 0 (record { card = 0; p = 1; c = 1 } ∷ []))) .words in
-    let c = take-on b (message-bytes (increment-message 0 1 0 1 1)) .words in
-    let d = count-on c 0 (room 36) .words in
+    let b = take-on fresh (message-bytes (form.clear-message version-2 1 1 0 (record { card = 0; p = 1; c = 1 } ∷ []))) .words in
+    let c = take-on b (message-bytes (increment-message version-2 0 1 0 1 1 1)) .words in
+    let d = count-on c 0 1 (room 40) .words in
     is-quiet (read-on fresh 0)
     && eqb (read-on b 0 .value) 0 && eqb (read-on b 0 .holders) 1 && not (is-quiet (read-on b 0))
     && is-quiet (read-on c 0)
     && not (is-quiet (read-on d 0)) && not (is-quiet (read-on c 1))
 
+-- card 0 of one, with one counter, that has counted C units in one message
+one-message : ℕ → List ℕ
+one-message C = 1 ∷ 1 ∷ 0 ∷ C ∷ 1 ∷ 0 ∷ 0 ∷ 0 ∷ []
+
+-- C counts units and N messages: a row with C above N is well-formed, and one with C above MAX is not.
+units-and-messages : Bool
+units-and-messages = row-well-formed (one-message 2) 0 && row-well-formed (one-message MAX) 0 && not (row-well-formed (one-message (MAX + 1)) 0)
+
+-- With C at MAX - 5, a count by 6 is 4 and one by 5 is accepted; amounts 0 and 65,536 are 16, which comes before 4; 65,535 is accepted.
+amounts : Bool
+amounts =
+    let b = one-message (MAX - 5) in
+    eqb (count-on b 0 6 (room 40) .answer .number) 4 && eqb (count-on b 0 5 (room 40) .answer .number) 0
+    && eqb (count-on b 0 0 (room 40) .answer .number) 16 && eqb (count-on b 0 65536 (room 40) .answer .number) 16
+    && eqb (count-on (fresh-words 1 1 0) 0 65536 (room 40) .answer .number) 16 && eqb (count-on (fresh-words 1 1 0) 0 65535 (room 40) .answer .number) 0
+
+-- Counts by 3 and by 4 leave (7,0,7), C 7 and N 2, and so does taking them. A start by 2 with p = 3 is 10, and so is p = 2 by 2 without start; a message of version 1 is 6.
+three-and-four : Bool
+three-and-four =
+    let first = count-on (fresh-words 2 1 0) 0 3 (room 40) in
+    let second = count-on (first .words) 0 4 (room 40) in
+    let other = fresh-words 2 1 1 in
+    let taken = take-on (take-on other (first .out) .words) (second .out) .words in
+    let e = entry-of 2 (second .words) 0 0 in
+    let f = entry-of 2 taken 0 0 in
+    eqb (e .p) 7 && eqb (e .n) 0 && eqb (e .c) 7 && eqb (C-of (second .words) 0) 7 && eqb (N-of 2 (second .words) 0) 2
+    && eqb (f .p) 7 && eqb (f .n) 0 && eqb (f .c) 7 && eqb (C-of taken 0) 7 && eqb (N-of 2 taken 0) 2 && eqb (read-on taken 0 .value) 7
+    && eqb (take-on other (message-bytes (increment-message version-2 0 1 0 3 1 2)) .answer .number) 10
+    && eqb (take-on other (message-bytes (increment-message version-2 0 1 0 2 0 2)) .answer .number) 10
+    && eqb (take-on other (message-bytes (increment-message version-1 0 1 0 1 1 0)) .answer .number) 6
+
 pub all-examples : Bool
 all-examples = clear-on-fresh && sequences && output-lengths && counter-limits && third-count && count-clear-count && count-count-read-and-clear && value-0-and-quiet
+    && units-and-messages && amounts && three-and-four
 
 pub examples-hold : all-examples ≡ true
-unfolding all-examples clear-on-fresh sequences output-lengths counter-limits third-count count-clear-count count-count-read-and-clear value-0-and-quiet answer-to room sizes-in-range right replica-fits all-below count-below entry-well-formed card-well-formed row-well-formed tables-well-formed open-on reading read-on send-with words-after count-on clear-on read-and-clear-on content all-entries cards-known increment-implausible entry-plausible plausible take-with fresh-words header-bytes increment-bytes entry-bytes entries-bytes clear-bytes message-bytes header-in-range increment-in-range clear-in-range entry-in-range entries-in-range unused in-range increment-message entries-at called-length message-at reads number-at bytes-of cleared-words taken-words shown count-message present-entries clear-message read-value read-holders put sum bits incremented cleared form.clear-message
+unfolding all-examples clear-on-fresh sequences output-lengths counter-limits third-count count-clear-count count-count-read-and-clear value-0-and-quiet one-message units-and-messages amounts three-and-four answer-to room sizes-in-range right replica-fits all-below count-below entry-well-formed card-well-formed row-well-formed tables-well-formed open-on reading read-on send-with words-after count-on clear-on read-and-clear-on content all-entries cards-known increment-plausible entry-plausible plausible take-with fresh-words header-bytes increment-bytes entry-bytes entries-bytes clear-bytes message-bytes header-in-range amount-in-range increment-in-range clear-in-range entry-in-range entries-in-range unused in-range increment-message entries-at called-length message-at reads number-at bytes-of cleared-words taken-words shown count-message present-entries clear-message read-value read-holders put sum bits incremented cleared form.clear-message
 examples-hold = refl

@@ -8,7 +8,7 @@ use lib.Dec.{eqb}
 use Rattle.protocol.specs.Chassis.{Message, increment, clearing}
 use Rattle.wire.specs.declared.Message as wire
 use Rattle.wire.specs.Message as form
-use Rattle.wire.specs.Message.{increment-kind, increment-length, clear-length, message-at, message-bytes}
+use Rattle.wire.specs.Message.{version-2, increment-kind, increment-length, clear-length, message-at, message-bytes}
 
 -- a message as a card takes it: who sent it, its number among all of that sender's messages, and what it says to Algorithm 1
 pub record Received : Type 0 where
@@ -24,28 +24,28 @@ pub record Format : Type 0 where
   pub written : Received → List ℕ
   pub size : Message → ℕ
 
--- ---- version 1, the format of `wire`: the amount of an increment is 1 and is not written
+-- ---- version 2 of `wire`: "The calls of a card and of a chassis read and write version 2 only."
 
 unfoldable pub content : wire.Message → Message
 content m =
-    cond (eqb (m .kind) increment-kind) (increment (m .counter) 1 (m .p) (eqb (m .start) 1)) (clearing (m .counter) (take (m .len) (m .entries)))
+    cond (eqb (m .kind) increment-kind) (increment (m .counter) (m .amount) (m .p) (eqb (m .start) 1)) (clearing (m .counter) (take (m .len) (m .entries)))
 
 abbrev pub on-wire : ℕ → ℕ → Message → wire.Message
-on-wire sender sequence (increment q w p start) = form.increment-message sender sequence q p (cond start 1 0)
-on-wire sender sequence (clearing q es) = form.clear-message sender sequence q es
+on-wire sender sequence (increment q w p start) = form.increment-message version-2 sender sequence q p (cond start 1 0) w
+on-wire sender sequence (clearing q es) = form.clear-message version-2 sender sequence q es
 
 abbrev pub received-of : wire.Message → Received
 received-of m = record { sender = m .sender; sequence = m .sequence; content = content m }
 
--- "36 bytes", "28 + 20e bytes"
+-- "40 in version 2", "28 + 20e bytes"
 abbrev pub size-of : Message → ℕ
-size-of (increment q w p start) = increment-length
+size-of (increment q w p start) = increment-length version-2
 size-of (clearing q es) = clear-length (length es)
 
-abbrev pub format-1 : Format
-format-1 = record {
-  reads = form.reads;
-  received = λ bytes. received-of (message-at bytes);
+abbrev pub format-2 : Format
+format-2 = record {
+  reads = form.reads version-2;
+  received = λ bytes. received-of (message-at version-2 bytes);
   written = λ m. message-bytes (on-wire (m .sender) (m .sequence) (m .content));
   size = size-of;
 }

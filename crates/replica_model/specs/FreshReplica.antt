@@ -2,27 +2,27 @@
 use Prim.Native.Nat.{ℕ, _+_, _≤_, _<_}
 use mathlib.Core.Path.{_≡_, refl, ap}
 use mathlib.Core.Logic.{_≢_}
-use mathlib.Core.List.{List, [], _∷_}
-use mathlib.Core.Bool.{true, not, _&&_}
+use mathlib.Core.List.{List}
+use mathlib.Core.Bool.{Bool, true, not, _&&_}
 use native.Mathlib.Omega.{arith}
 use lib.ListN.{length}
 use lib.Dec.{leb, ltb, eqb}
 use borrow.Author.Tests.{lt-ltb, le-leb, ne-eqb}
 use Rattle.protocol.specs.Entry.{present}
-use Rattle.protocol.specs.Acceptance.{all-entries, cards-known, increment-implausible, plausible}
-use Rattle.protocol.specs.Checks.{Gives, AllPass, or-else}
-use Rattle.protocol.specs.Limits.{short-output}
-use Rattle.protocol.specs.ChecksLaws.{first-passes, passes-gives, all-append}
+use Rattle.protocol.specs.Acceptance.{all-entries, cards-known, increment-plausible, plausible}
+use Rattle.protocol.specs.Checks.{Gives}
+use Rattle.protocol.specs.Limits.{MAX, most-amount}
+use Rattle.protocol.specs.ChecksLaws.{passes-gives}
 use Rattle.protocol.specs.AcceptanceLaws.{row-alike, count-none}
-use Rattle.wire.specs.Message.{increment-message, message-bytes, increment-length, clear-length}
+use Rattle.wire.specs.Message.{version-2, increment-message, message-bytes, increment-length, clear-length}
 use Rattle.wire.specs.Bounds.{increment-in-range-from, increment-entries}
 use Rattle.wire.specs.RoundTrips.{message-read, read-as}
 use Rattle.replica_model.specs.Layout.{replica-length, C-of, N-of, fresh-words}
 use Rattle.replica_model.specs.LayoutLaws.{fresh-shows}
-use Rattle.replica_model.specs.Calls.{sizes-in-range, right, row-well-formed, open-on, read-on, count-on, clear-on, take-on, left-checks, send-checks, holders, replica-fits}
+use Rattle.replica_model.specs.Calls.{sizes-in-range, right, row-well-formed, open-on, read-on, count-on, clear-on, take-on, is-amount, send-checks, holders, replica-fits}
 use Rattle.replica_model.specs.ClaimTerms.{Right, RowOf, Sizes}
 use Rattle.replica_model.specs.RowLaws.{right-from, row-from, tests}
-use Rattle.replica_model.specs.Format.{content, format-1}
+use Rattle.replica_model.specs.Format.{content, format-2}
 use Rattle.replica_model.specs.CallsLaws.{open-decided, read-accepted, count-decided, clear-decided, take-decided}
 
 pub fresh-right : (r k own : ℕ) → Sizes r k → own < r → Right (fresh-words r k own)
@@ -51,38 +51,44 @@ module _ (r k own q : ℕ) (s : Sizes r k) (o : own < r) (hq : q < k) where
   is-well-formed : row-well-formed b q ≡ true
   is-well-formed = row-from b q (fresh-row r k own q o hq)
 
-  sends : (out : List ℕ) (size : ℕ) → size ≤ length out → Gives (send-checks b q out size) 0
+  sends : (asked : Bool) (w : ℕ) (out : List ℕ) (size : ℕ) → asked ≡ true → w ≤ MAX → size ≤ length out → Gives (send-checks b q asked w out size) 0
   unfolding fresh-words
-  sends out size l =
+  sends asked w out size h few l =
       let zero-N : N-of r b own ≡ 0 = fresh-shows r k own .Ns own o in
-      let left : AllPass (left-checks (N-of r b own)) = rw zero-N (first-passes (left-checks 0) refl refl) in
-      passes-gives (send-checks b q out size) refl (is-right, (lt-ltb q k hq, (is-well-formed, all-append (left-checks (N-of r b own)) (or-else (leb size (length out)) short-output ∷ []) left (le-leb size (length out) l, tt))))
+      let zero-C : C-of b own ≡ 0 = fresh-shows r k own .Cs own o in
+      let left : not (eqb (N-of r b own) MAX) && leb (C-of b own + w) MAX ≡ true = rw (zero-N, zero-C) (le-leb (0 + w) MAX (omega arith)) in
+      passes-gives (send-checks b q asked w out size) refl (is-right, (lt-ltb q k hq, (h, (is-well-formed, (left, (le-leb size (length out) l, tt))))))
 
   pub fresh-read : read-on b q .number ≡ 0
   unfolding fresh-words
   fresh-read = read-accepted b q (fresh-right r k own s o) hq (fresh-row r k own q o hq)
-
-  pub fresh-count : (out : List ℕ) → increment-length ≤ length out → count-on b q out .answer .number ≡ 0
-  fresh-count out l = count-decided b q out .exact 0 .1 (sends out increment-length l)
 
   none : holders b q ≡ 0
   unfolding fresh-words
   none = count-none r _ (λ j l. ap present (fresh-shows r k own .entries q j hq l))
 
   pub fresh-clear : (out : List ℕ) → clear-length 0 ≤ length out → clear-on b q out .answer .number ≡ 0
-  fresh-clear out l = clear-decided b q out .exact 0 .1 (sends out _ (let z = none in omega arith))
+  fresh-clear out l = clear-decided b q out .exact 0 .1 (sends true 0 out _ refl (omega arith) (let z = none in omega arith))
+
+module _ (r k own q w : ℕ) (s : Sizes r k) (o : own < r) (hq : q < k) (some : 1 ≤ w) (few : w ≤ most-amount) where
+  pub fresh-count : (out : List ℕ) → increment-length version-2 ≤ length out → count-on (fresh-words r k own) q w out .answer .number ≡ 0
+  fresh-count out l =
+      count-decided (fresh-words r k own) q w out .exact 0 .1 (sends r k own q s o hq (is-amount w) w out (increment-length version-2) (simp tests (some, few)) (omega arith) l)
 
   -- another card's first increment
-  pub fresh-take : (j : ℕ) → j < r → j ≢ own → take-on b (message-bytes (increment-message j 1 q 1 1)) .answer .number ≡ 0
-  unfolding fresh-words increment-message content cards-known plausible increment-implausible all-entries
+  pub fresh-take : (j : ℕ) → j < r → j ≢ own → take-on (fresh-words r k own) (message-bytes (increment-message version-2 j 1 q w 1 w)) .answer .number ≡ 0
+  unfolding fresh-words increment-message content cards-known plausible increment-plausible all-entries
   fresh-take j hj other =
-      let m = increment-message j 1 q 1 1 in
-      let few = s .few-cards in
+      let b = fresh-words r k own in
+      let m = increment-message version-2 j 1 q w 1 w in
+      let few-cards = s .few-cards in
       let few-counters = s .few-counters in
-      let (h, same) = read-as (message-bytes m) m (message-read m (increment-entries j 1 q 1 1) (increment-in-range-from j 1 q 1 1 (omega arith) (omega arith))) in
+      let (h, same) = read-as (message-bytes m) m (message-read m (increment-entries version-2 j 1 q w 1 w) (increment-in-range-from version-2 j 1 q w 1 w (omega arith) (omega arith))) in
       let n : N-of r b j ≡ 0 = fresh-shows r k own .Ns j hj in
       let c : C-of b j ≡ 0 = fresh-shows r k own .Cs j hj in
       let known : ltb j r && not (eqb j own) && true ≡ true = rw (lt-ltb j r hj, ne-eqb j own other) in
       let next : ltb (N-of r b j) 1 ≡ true = lt-ltb (N-of r b j) 1 (omega arith) in
       let soon : leb 1 (N-of r b j + 1) ≡ true = le-leb 1 (N-of r b j + 1) (omega arith) in
-      take-decided format-1 b (message-bytes m) .exact 0 .1 (rw same (is-right, (h, (lt-ltb q k hq, (is-well-formed, (known, (next, (soon, (rw c, refl)))))))))
+      let near : eqb w (C-of b j + w) && leb (C-of b j + w) MAX ≡ true = simp tests (omega arith) in
+      take-decided format-2 b (message-bytes m) .exact 0 .1
+      (rw same (is-right r k own q s o hq, (h, (lt-ltb q k hq, (is-well-formed r k own q s o hq, (known, (next, (soon, (near, refl)))))))))

@@ -1,12 +1,15 @@
 -- LAWS. The specification's step on the words (`AcceptedCalls`) and the paper's (`protocol`'s `Algorithm1`) joined: a move whose message is an update of the paper's performs that
 -- update, and the message that is written for an update says it.
-use Prim.Native.Nat.{ℕ, _+_}
+use Prim.Native.Nat.{ℕ, _+_, _≤_}
 use mathlib.Core.Path.{_≡_, refl, sym, ap, _∙_}
 use mathlib.Core.List.{List, [], _∷_}
 use mathlib.Core.Bool.{true, false}
+use native.Mathlib.Nat.{le-refl}
+use native.Mathlib.Omega.{arith}
 use lib.ListN.{take}
 use lib.Seq.{take-at, take-append-seam}
 use lib.Dec.{eqb}
+use borrow.Author.Tests.{eqb-true}
 use Rattle.protocol.specs.Limits.{MAX}
 use Rattle.protocol.specs.Cases.{by-test}
 use Rattle.protocol.specs.declared.ClearEntry.{ClearEntry}
@@ -15,16 +18,17 @@ use Rattle.protocol.specs.Chassis.{Message, taken}
 use Rattle.protocol.specs.StoreLaws.{shown}
 use Rattle.protocol.specs.Algorithm1.{Update, inc, reset, inc-generator, reset-generator, effector, slot-of, state-of, message-of, SomeUnits}
 use Rattle.protocol.specs.Claims.{algorithm-1-take-increment, algorithm-1-take-clear}
-use Rattle.wire.specs.declared.Message as wire
 use Rattle.wire.specs.Message as form
-use Rattle.wire.specs.Message.{increment-kind, increment-message, message-bytes, over}
+use Rattle.wire.specs.Message.{version-2, increment-kind, increment-message, message-bytes, message-at, reads, over}
+use Rattle.wire.specs.Bounds.{increment-bounds}
+use Rattle.wire.specs.RoundTrips.{readable, message-version}
 use Rattle.replica_model.specs.Layout.{cards, own-card, C-of, N-of, entry-of}
 use Rattle.replica_model.specs.Calls.{state, SendOutcome, sent-with}
 use Rattle.replica_model.specs.ClaimTerms.{RowOf, sent-as, Writable}
 use Rattle.replica_model.specs.WellFormedKept.{FittingEntries, Fitting}
 use Rattle.replica_model.specs.AcceptedCalls.{Move, move-isolates}
 use Rattle.replica_model.specs.Paper.{instance-of, update-of, SameBelow, PaperStep, Says}
-use Rattle.replica_model.specs.Format.{on-wire, content, size-of, format-1}
+use Rattle.replica_model.specs.Format.{on-wire, content, size-of, format-2}
 use Rattle.replica_model.specs.FormatLaws.{on-wire-length}
 use Rattle.replica_model.specs.LayoutLaws.{same-cards}
 
@@ -43,9 +47,19 @@ pub reset-made : (b : List ℕ) (q : ℕ) → MadeBy (own-card b) (reset-generat
 unfolding reset-generator
 reset-made b q = tt
 
-pub content-is : (m : wire.Message) → (content m ≡ message-of (m .counter) (update-of m)) × MadeBy (m .sender) (update-of m)
+-- a message by 1 at most is the paper's
+pub content-is : (bytes : List ℕ) → reads version-2 bytes ≡ true → let m = message-at version-2 bytes in
+    m .amount ≤ 1 → (content m ≡ message-of (m .counter) (update-of m)) × MadeBy (m .sender) (update-of m)
 unfolding content update-of
-content-is m = by-test (eqb (m .kind) increment-kind) (λ t. rw t (refl, refl)) (λ t. rw t (refl, tt))
+content-is bytes h few =
+    let m = message-at version-2 bytes in
+    by-test (eqb (m .kind) increment-kind)
+    (λ t.
+    let kind = eqb-true (m .kind) increment-kind t in
+    let some = increment-bounds m (readable version-2 bytes h .fits) (λ e. omega arith) .counts .amount-some (rw (message-version version-2 bytes) (le-refl version-2)) in
+    let one : m .amount ≡ 1 = omega arith in
+    rw (t, one) (refl, refl))
+    (λ t. rw t (refl, tt))
 
 -- ---- performed
 
@@ -79,11 +93,11 @@ move-performs b q s u after w made k = record {
 -- ---- said, and both
 
 on-wire-is : (s sequence q : ℕ) (u : Update) → MadeBy s u
-    → let x = on-wire s sequence (message-of q u) in (x .sender ≡ s) × (x .sequence ≡ sequence) × (x .counter ≡ q) × (update-of x ≡ u)
+    → let x = on-wire s sequence (message-of q u) in (x .sender ≡ s) × (x .sequence ≡ sequence) × (x .counter ≡ q) × (update-of x ≡ u) × (x .amount ≤ 1)
 unfolding update-of increment-message form.clear-message
-on-wire-is s sequence q (inc j p true) made = (refl, refl, refl, rw made)
-on-wire-is s sequence q (inc j p false) made = (refl, refl, refl, rw made)
-on-wire-is s sequence q (reset R) made = (refl, refl, refl, ap reset (take-append-seam R _))
+on-wire-is s sequence q (inc j p true) made = (refl, refl, refl, rw made, omega arith)
+on-wire-is s sequence q (inc j p false) made = (refl, refl, refl, rw made, omega arith)
+on-wire-is s sequence q (reset R) made = (refl, refl, refl, ap reset (take-append-seam R _), omega arith)
 
 -- the front of the output says what was written over it
 written-says : (b out : List ℕ) (q : ℕ) (u : Update) (size : ℕ) → MadeBy (own-card b) u
@@ -98,11 +112,12 @@ written-says b out q u size made k =
       sequence-is = rw (k .reads-same) (h .1);
       counter-is = rw (k .reads-same) (h .2);
       update-is = rw (k .reads-same) (h .3);
+      by-one = rw (k .reads-same) (h .4);
     })
 
 -- an accepted send of a message that is an update: written and performed
 pub sends : (b out : List ℕ) (q : ℕ) (u : Update) (m : Message) (size : ℕ) (done : SendOutcome) → message-of q u ≡ m → MadeBy (own-card b) u → RowOf b q
-    → Writable (sent-as b m) size → done ≡ sent-with format-1 b out m → Move b q (own-card b) m (done .words)
+    → Writable (sent-as b m) size → done ≡ sent-with format-2 b out m → Move b q (own-card b) m (done .words)
     → Says (take (done .answer .length) (done .out)) (own-card b) (N-of (cards b) b (own-card b) + 1) q u × PaperStep b q u (done .words)
 sends b out q u m size done same made w k is moves =
     (rw (is, ← same) (written-says b out q u size made (rw same k)), move-performs b q (own-card b) u (done .words) w made (rw same moves))

@@ -1,6 +1,6 @@
--- LAWS. What a card sends: with a well-formed row and an own N below MAX, the messages of count and clear fit the own replica (`Fitting`) and can be written, and what is written reads as itself.
+-- LAWS. What a card sends: with a well-formed row, an own N below MAX and room for the units, the messages of count and clear fit the own replica (`Fitting`) and can be written, and what is written reads as itself.
 use Prim.Native.Nat.{ℕ, zero, suc, _+_, _≤_, _<_}
-use mathlib.Core.Path.{_≡_, refl, _∙_}
+use mathlib.Core.Path.{_≡_, refl, _∙_, subst}
 use mathlib.Core.List.{List, [], _∷_, _++_, append-nil}
 use mathlib.Core.Bool.{true}
 use native.Mathlib.Omega.{arith}
@@ -11,28 +11,29 @@ use Rattle.protocol.specs.Cases.{by-test}
 use Rattle.protocol.specs.declared.Entry.{Entry}
 use Rattle.protocol.specs.declared.ClearEntry.{ClearEntry}
 use Rattle.protocol.specs.Entry.{present, count-starts, count-p}
-use Rattle.protocol.specs.Chassis.{count-message, present-entries, clear-message}
+use Rattle.protocol.specs.Chassis.{Message, count-message, present-entries, clear-message}
 use Rattle.protocol.specs.StoreLaws.{shown}
 use Rattle.protocol.specs.Rows.{WellFormedRow}
 use Rattle.protocol.specs.AcceptanceLaws.{flag≤1}
-use Rattle.wire.specs.declared.Message as wire
-use Rattle.wire.specs.Message.{increment-length, clear-length, longest-message, message-bytes, message-length, entry-in-range, entries-in-range, in-range}
+use Rattle.wire.specs.Message.{version-2, increment-length, clear-length, longest-message, message-bytes, message-length, entry-in-range, entries-in-range, in-range, message-at, reads}
 use Rattle.wire.specs.Bounds.{HeaderBounds, increment-in-range-from, clear-in-range-from, increment-entries, clear-entries}
 use Rattle.wire.specs.WriteLaws.{length-message-bytes, increment-message-length, clear-message-length}
 use Rattle.wire.specs.RoundTrips.{message-read, read-as}
 use Rattle.replica_model.specs.Layout.{cards, counters, own-card, C-of, N-of, entry-of}
 use Rattle.replica_model.specs.ClaimTerms.{Right, RowOf, sent-as, Writable}
 use Rattle.replica_model.specs.RowLaws.{tests}
+use Rattle.replica_model.specs.FormatLaws.{on-wire-version}
 use Rattle.replica_model.specs.PresentLaws.{present-length, present-few}
 use Rattle.replica_model.specs.WellFormedKept.{FittingEntry, FittingEntries, Fitting}
-use Rattle.replica_model.specs.Calls.{holders, count-of, clear-of}
+use Rattle.replica_model.specs.Calls.{is-amount, holders, count-of, clear-of}
 
--- what the checks before a message is made leave
-pub record Sending (b : List ℕ) (q : ℕ) : Type 0 where
+-- what the checks before a message that counts w is made leave
+pub record Sending (b : List ℕ) (q w : ℕ) : Type 0 where
   pub right : Right b
   pub counter : q < counters b
   pub row : RowOf b q
   pub more : N-of (cards b) b (own-card b) < MAX
+  pub room : C-of b (own-card b) + w ≤ MAX
 
 -- ---- the entries of a clear: each fits, and the cards rise
 
@@ -79,39 +80,41 @@ module _ (r own : ℕ) (C N : ℕ → ℕ) (row : ℕ → Entry) (k : WellFormed
 
 -- ---- the messages of count and clear
 
-count-p-near : (known : ℕ) (e : Entry) → e .p ≤ known → (1 ≤ count-p 1 known e) × (count-p 1 known e ≤ known + 1)
-count-p-near known e l = by-test (present e) (λ t. rw t (omega arith)) (λ t. rw t (omega arith))
+count-p-near : (w known : ℕ) (e : Entry) → e .p ≤ known → (w ≤ count-p w known e) × (count-p w known e ≤ known + w)
+count-p-near w known e l = by-test (present e) (λ t. rw t (omega arith)) (λ t. rw t (omega arith))
 
-writable : (x : wire.Message) (size : ℕ) → in-range x ≡ true → length (x .entries) ≡ most-cards → message-length x ≡ size → size ≤ longest-message → Writable x size
-writable x size h whole long short =
-    let r = read-as (message-bytes x) x (message-read x whole h) in
+writable : (b : List ℕ) (m : Message) (size : ℕ) → let x = sent-as b m in
+    in-range x ≡ true → length (x .entries) ≡ most-cards → message-length x ≡ size → size ≤ longest-message → Writable x size
+writable b m size h whole long short =
+    let x = sent-as b m in
+    let r = subst (λ (v : ℕ). (reads v (message-bytes x) ≡ true) × (message-at v (message-bytes x) ≡ x)) (on-wire-version (own-card b) _ m) (read-as (message-bytes x) x (message-read x whole h)) in
     record { ranges = h; whole = whole; long = length-message-bytes x ∙ long; short = short; reads-well = r .0; reads-same = r .1 }
 
-module _ (b : List ℕ) (q : ℕ) (k : Sending b q) where
+module _ (b : List ℕ) (q w : ℕ) (k : Sending b q w) where
   -- p of a count
-  p-near : let p = count-p 1 (C-of b (own-card b)) (entry-of (cards b) b q (own-card b)) in (1 ≤ p) × (p ≤ C-of b (own-card b) + 1)
-  p-near = count-p-near (C-of b (own-card b)) (entry-of (cards b) b q (own-card b)) (omega (arith, k .row .entry (own-card b) (k .right .own), k .row .own≤C))
+  p-near : let p = count-p w (C-of b (own-card b)) (entry-of (cards b) b q (own-card b)) in (w ≤ p) × (p ≤ C-of b (own-card b) + w)
+  p-near = count-p-near w (C-of b (own-card b)) (entry-of (cards b) b q (own-card b)) (omega (arith, k .row .entry (own-card b) (k .right .own), k .row .own≤C))
 
-  pub count-fits : Fitting (cards b) (own-card b) (own-card b) (C-of b) (count-of b q)
+  pub count-fits : is-amount w ≡ true → Fitting (cards b) (own-card b) (own-card b) (C-of b) (count-of b q w)
   unfolding count-message shown
-  count-fits = (refl, p-near .0, p-near .1)
+  count-fits asked = let few = simp tests at asked in let near = p-near in (omega arith, near .1, k .room)
 
   pub clear-fits : Fitting (cards b) (own-card b) (own-card b) (C-of b) (clear-of b q)
   unfolding clear-message shown
   clear-fits = present-fits (cards b) (own-card b) (C-of b) (N-of (cards b) b) (entry-of (cards b) b q) (k .row) (cards b) (omega arith)
 
-  header : HeaderBounds (own-card b) (N-of (cards b) b (own-card b) + 1) q
+  header : HeaderBounds version-2 (own-card b) (N-of (cards b) b (own-card b) + 1) q
   header = let r = k .right in let m = k .more in let l = k .counter in omega arith
 
-  pub count-writable : Writable (sent-as b (count-of b q)) increment-length
+  pub count-writable : is-amount w ≡ true → Writable (sent-as b (count-of b q w)) (increment-length version-2)
   unfolding count-message shown
-  count-writable =
+  count-writable asked =
       let near = p-near in
-      let less = k .row .C≤N (own-card b) (k .right .own) in
+      let few = simp tests at asked in
+      let room = k .room in
       let start≤ = flag≤1 (count-starts (entry-of (cards b) b q (own-card b))) in
-      let few = k .more in
-      writable _ increment-length (increment-in-range-from (own-card b) _ q _ _ header (omega arith)) (increment-entries (own-card b) _ q _ _)
-      (increment-message-length (own-card b) _ q _ _) (omega arith)
+      writable b (count-of b q w) (increment-length version-2) (increment-in-range-from version-2 (own-card b) _ q _ _ w header (omega arith)) (increment-entries version-2 (own-card b) _ q _ _ w)
+      (increment-message-length version-2 (own-card b) _ q _ _ w) (omega arith)
 
   pub clear-writable : Writable (sent-as b (clear-of b q)) (clear-length (holders b q))
   unfolding clear-message shown
@@ -121,7 +124,7 @@ module _ (b : List ℕ) (q : ℕ) (k : Sending b q) where
       let most = present-few (entry-of (cards b) b q) (cards b) in
       let few = k .right .sizes .few-cards in
       let short : length es ≤ most-cards = omega arith in
-      writable _ _
-      (clear-in-range-from (own-card b) _ q es header short
+      writable b (clear-of b q) _
+      (clear-in-range-from version-2 (own-card b) _ q es header short
       (present-in-range (cards b) (own-card b) (C-of b) (N-of (cards b) b) (entry-of (cards b) b q) (k .row) (cards b) (omega arith) few))
-      (clear-entries (own-card b) _ q es short) (clear-message-length (own-card b) _ q es ∙ rw same) (omega arith)
+      (clear-entries version-2 (own-card b) _ q es short) (clear-message-length version-2 (own-card b) _ q es ∙ rw same) (omega arith)

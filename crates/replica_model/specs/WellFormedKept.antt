@@ -16,7 +16,7 @@ use Rattle.protocol.specs.EntryLaws.{WellFormed}
 use Rattle.protocol.specs.Chassis.{Message, increment, clearing, Replica, cleared-row, taken}
 use Rattle.protocol.specs.Rows.{WellFormedRow}
 
--- ---- a message that fits: its sender is s, the receiver's own card is `own`, its numbers of increments are C
+-- ---- a message that fits: its sender is s, the receiver's own card is `own`, and C is its units of each card
 
 pub record FittingEntry (r own : ℕ) (C : ℕ → ℕ) (t : ClearEntry) : Type 0 where
   pub known : t .card < r
@@ -30,7 +30,7 @@ FittingEntries r own C [] = Unit {0}
 FittingEntries r own C (t ∷ ts) = FittingEntry r own C t × FittingEntries r own C ts
 
 abbrev pub Fitting : ℕ → ℕ → ℕ → (ℕ → ℕ) → Message → Type 0
-Fitting r own s C (increment q w p start) = (w ≡ 1) × (1 ≤ p) × (p ≤ C s + 1)
+Fitting r own s C (increment q w p start) = (1 ≤ p) × (p ≤ C s + w) × (C s + w ≤ MAX)
 Fitting r own s C (clearing q ts) = FittingEntries r own C ts
 
 -- ---- one entry
@@ -47,18 +47,18 @@ larger-kept e f v w = record {
   absent-whole = λ z. let a = v .absent-whole (omega arith) in let b = w .absent-whole (omega arith) in omega arith;
 }
 
-chosen≤ : (t : Bool) (p : ℕ) → cond t (p - 1) 0 ≤ p
-chosen≤ true p = omega arith
-chosen≤ false p = omega arith
+chosen≤ : (t : Bool) (p w : ℕ) → cond t (p - w) 0 ≤ p
+chosen≤ true p w = omega arith
+chosen≤ false p w = omega arith
 
-incremented-kept : (p : ℕ) (start : Bool) (known : ℕ) (e : Entry) → 1 ≤ p → p ≤ known + 1 → known < MAX → WellFormed MAX e
-    → WellFormed MAX (incremented 1 p start known e) × (e .c ≤ known → incremented 1 p start known e .c ≤ known + 1)
+incremented-kept : (w p : ℕ) (start : Bool) (known : ℕ) (e : Entry) → 1 ≤ p → p ≤ known + w → known + w ≤ MAX → WellFormed MAX e
+    → WellFormed MAX (incremented w p start known e) × (e .c ≤ known → incremented w p start known e .c ≤ known + w)
 unfolding incremented
-incremented-kept p start known e some near few w =
-    let n≤ = chosen≤ (start || not (present e)) p in
-    let k = removed-kept (finished (known + 1) (raised 1 p start known e)) (raised 1 p start known e)
-    (larger-kept e (record { p = p; n = cond (start || not (present e)) (p - 1) 0; c = known + 1 }) w (omega arith)) in
-    (k .0, λ l. omega arith)
+incremented-kept w p start known e some near few k =
+    let n≤ = chosen≤ (start || not (present e)) p w in
+    let x = removed-kept (finished (known + w) (raised w p start known e)) (raised w p start known e)
+    (larger-kept e (record { p = p; n = cond (start || not (present e)) (p - w) 0; c = known + w }) k (omega arith)) in
+    (x .0, λ l. omega arith)
 
 cleared-kept : (p c known : ℕ) (e : Entry) → 1 ≤ p → p ≤ c → c ≤ MAX → WellFormed MAX e
     → WellFormed MAX (cleared p c known e) × ((m : ℕ) → c ≤ m → e .c ≤ m → cleared p c known e .c ≤ m)
@@ -79,7 +79,7 @@ module _ (r own : ℕ) where
   put-kept : (C N : ℕ → ℕ) (row : ℕ → Entry) (j : ℕ) (e : Entry) → WellFormed MAX e → (j ≡ own → e .c ≤ C own) → WellFormedRow MAX r own C N row
       → WellFormedRow MAX r own C N (put j e row)
   put-kept C N row j e w o k = record {
-    C≤N = k .C≤N;
+    C≤MAX = k .C≤MAX;
     N≤MAX = k .N≤MAX;
     entry = λ i l. put-cases (WellFormed MAX) j e row i (λ _. w) (λ _. k .entry i l);
     own≤C = put-cases (λ x. x .c ≤ C own) j e row own (λ a. o (omega arith)) (λ _. k .own≤C);
@@ -94,41 +94,41 @@ module _ (r own : ℕ) where
       cleared-row-kept C N ts _ fs
       (put-kept C N row (t .card) _ (x .0) (λ e. x .1 (C own) (f .own≤C e) (rw e (k .own≤C))) k)
 
-  -- a message more of card s, and perhaps an increment more
-  counted : (C N C′ : ℕ → ℕ) (row : ℕ → Entry) (s : ℕ) → own < r → s < r → N s < MAX
-      → ((j : ℕ) → j ≢ s → C′ j ≡ C j) → C s ≤ C′ s → C′ s ≤ C s + 1 → WellFormedRow MAX r own C N row → WellFormedRow MAX r own C′ (put s (suc (N s)) N) row
-  counted C N C′ row s o hs few same more most k = record {
-    C≤N = λ j l. at j l .1;
+  -- a message more of card s, and perhaps some units more
+  counted : (C N C′ : ℕ → ℕ) (row : ℕ → Entry) (s : ℕ) → own < r → N s < MAX
+      → ((j : ℕ) → j ≢ s → C′ j ≡ C j) → C s ≤ C′ s → C′ s ≤ MAX → WellFormedRow MAX r own C N row → WellFormedRow MAX r own C′ (put s (suc (N s)) N) row
+  counted C N C′ row s o few same more most k = record {
+    C≤MAX = λ j l. at j l .1;
     N≤MAX = λ j l. at j l .2;
     entry = k .entry;
     own≤C = omega (arith, at own o .0, k .own≤C);
   }
     where
-      at : (j : ℕ) → j < r → (C j ≤ C′ j) × (C′ j ≤ put s (suc (N s)) N j) × (put s (suc (N s)) N j ≤ MAX)
+      at : (j : ℕ) → j < r → (C j ≤ C′ j) × (C′ j ≤ MAX) × (put s (suc (N s)) N j ≤ MAX)
       at j l =
           by-place j s
-          (λ e. rw (put-at s (suc (N s)) N j e, e) (omega (arith, k .C≤N s hs)))
-          (λ d. rw (put-other s (suc (N s)) N j d, same j d) (omega (arith, k .C≤N j l, k .N≤MAX j l)))
+          (λ e. rw (put-at s (suc (N s)) N j e, e) (omega arith))
+          (λ d. rw (put-other s (suc (N s)) N j d, same j d) (omega (arith, k .C≤MAX j l, k .N≤MAX j l)))
 
   -- ---- Algorithm 1's step: every row that is well-formed stays so, the message's own and the others
 
   pub taken-kept : (s : ℕ) (m : Message) (b : Replica) → own < r → s < r → b .N s < MAX → Fitting r own s (b .C) m
       → (q : ℕ) → WellFormedRow MAX r own (b .C) (b .N) (b .entry q) → WellFormedRow MAX r own (taken s m b .C) (taken s m b .N) (taken s m b .entry q)
   unfolding taken
-  taken-kept s (increment q w p start) b o hs few (one, some, near) q′ k =
+  taken-kept s (increment q w p start) b o hs few (some, near, room) q′ k =
       by-place q′ q
       (λ e. rw (put-at q _ (b .entry) q′ e, ← e) (put-kept _ _ (b .entry q′) s _ (x .0) (λ d. rw (← d) (rw put-same (x .1 (rw d (k .own≤C))))) more))
       (λ d. rw (put-other q _ (b .entry) q′ d) more)
     where
       more : WellFormedRow MAX r own (put s (b .C s + w) (b .C)) (put s (suc (b .N s)) (b .N)) (b .entry q′)
-      more = counted (b .C) (b .N) _ (b .entry q′) s o hs few (put-other s (b .C s + w) (b .C)) (rw put-same (omega arith)) (rw put-same (omega arith)) k
+      more = counted (b .C) (b .N) _ (b .entry q′) s o few (put-other s (b .C s + w) (b .C)) (rw put-same (omega arith)) (rw put-same (omega arith)) k
 
       x : WellFormed MAX (incremented w p start (b .C s) (b .entry q′ s)) × (b .entry q′ s .c ≤ b .C s → incremented w p start (b .C s) (b .entry q′ s) .c ≤ b .C s + w)
-      x = rw one (incremented-kept p start (b .C s) (b .entry q′ s) some near (omega (arith, k .C≤N s hs)) (k .entry s hs))
+      x = incremented-kept w p start (b .C s) (b .entry q′ s) some near room (k .entry s hs)
   taken-kept s (clearing q ts) b o hs few f q′ k =
       by-place q′ q
       (λ e. rw (put-at q _ (b .entry) q′ e, ← e) (more _ (cleared-row-kept (b .C) (b .N) ts (b .entry q′) f k)))
       (λ d. rw (put-other q _ (b .entry) q′ d) (more _ k))
     where
       more : (row : ℕ → Entry) → WellFormedRow MAX r own (b .C) (b .N) row → WellFormedRow MAX r own (b .C) (put s (suc (b .N s)) (b .N)) row
-      more row = counted (b .C) (b .N) (b .C) row s o hs few (λ j d. refl) (omega arith) (omega arith)
+      more row w = counted (b .C) (b .N) (b .C) row s o few (λ j d. refl) (omega arith) (w .C≤MAX s hs) w

@@ -1,4 +1,4 @@
--- The array of a message is full, whatever its length says: that is the ninth field of what owning a message tells, which a function has of its
+-- The array of a message is full, whatever its length says: that is the tenth field of what owning a message tells, which a function has of its
 -- parameter from `.good`.
 use mathlib.Core.Path.{_≡_, sym, _∙_}
 use mathlib.Core.List.{List}
@@ -11,4 +11,4 @@ use Rattle.wire.specs.declared.Message.{Message}
 use Rattle.wire.proofs.Message.{the-type}
 
 pub array-full : (m : Message) {vs : List Val} → Is (row the-type) m vs → length (m .entries) ≡ most-cards
-array-full m owned = sym (length-map (m .entries) _) ∙ owned .1 .1 .1 .1 .1 .1 .1 .1 .1 .1 .0 .1 .0 .1
+array-full m owned = sym (length-map (m .entries) _) ∙ owned .1 .1 .1 .1 .1 .1 .1 .1 .1 .1 .1 .0 .1 .0 .1

@@ -28,6 +28,7 @@ holding m es = record {
   counter = m .counter;
   p = m .p;
   start = m .start;
+  amount = m .amount;
   len = m .len;
   entries = es;
 }

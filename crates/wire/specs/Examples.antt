@@ -1,15 +1,15 @@
--- CLAIMS. Worked examples, computed: the first increment of SPECIFICATION 10, clears of no entry, of one and of the most, and bytes that do not read.
+-- CLAIMS. Worked examples, computed: the first increment of SPECIFICATION 10 and what it is in version 2, clears of no entry, of one and of the most, and bytes that do not read.
 use mathlib.Core.Path.{_≡_, refl}
 use mathlib.Core.List.{List, [], _∷_, _++_}
 use Prim.Native.Nat.{ℕ, zero, suc, _+_}
-use lib.ListN.{length}
+use lib.ListN.{length, drop}
 use Rattle.protocol.specs.Limits.{most-cards, unreadable}
 use Rattle.protocol.specs.declared.ClearEntry.{ClearEntry}
 use Rattle.wire.specs.Number.{number-at, bytes-of}
-use Rattle.wire.specs.Message.{Message, increment-length, longest-message, message-bytes, header-bytes, increment-bytes, entry-bytes, entries-bytes, clear-bytes, header-in-range, increment-in-range, clear-in-range, entry-in-range, entries-in-range, unused, in-range, increment-message, clear-message, entries-at, called-length, message-at, reads, read-message, no-message, front-length}
+use Rattle.wire.specs.Message.{Message, version-1, version-2, longest-message, message-bytes, header-bytes, increment-bytes, entry-bytes, entries-bytes, clear-bytes, header-in-range, amount-in-range, increment-in-range, clear-in-range, entry-in-range, entries-in-range, unused, in-range, increment-message, clear-message, entries-at, called-length, message-at, reads, read-message, no-message, front-length}
 
--- "Card 0's first increment on counter 0, in hexadecimal:
---  00000001 00000001 00000000 0000000000000001 00000000 0000000000000001 00000001."
+-- "In version 1 it has 36, its version is 1 and it has no amount:
+--  00000001 00000001 00000000 0000000000000001 00000000 0000000000000001 00000001"
 pub first : List ℕ
 first =
     0 ∷ 0 ∷ 0 ∷ 1
@@ -20,21 +20,51 @@ first =
     ∷ 0 ∷ 0 ∷ 0 ∷ 0 ∷ 0 ∷ 0 ∷ 0 ∷ 1
     ∷ 0 ∷ 0 ∷ 0 ∷ 1 ∷ []
 
-pub first-written : message-bytes (increment-message 0 1 0 1 1) ≡ first
+pub first-written : message-bytes (increment-message version-1 0 1 0 1 1 0) ≡ first
 unfolding first message-bytes increment-bytes header-bytes bytes-of increment-message
 first-written = refl
 
-pub first-reads : read-message first ≡ record { number = 0; message = increment-message 0 1 0 1 1 }
-unfolding first read-message reads called-length message-at in-range header-in-range increment-in-range entries-in-range unused number-at increment-message
+pub first-reads : read-message first ≡ record { number = 0; message = increment-message version-1 0 1 0 1 1 0 }
+unfolding first read-message reads called-length message-at in-range header-in-range amount-in-range increment-in-range entries-in-range unused number-at increment-message
 first-reads = refl
 
 pub first-longer : read-message (first ++ 0 ∷ []) ≡ record { number = unreadable; message = no-message }
-unfolding first read-message reads called-length message-at in-range header-in-range increment-in-range entries-in-range unused number-at increment-message
+unfolding first read-message reads called-length message-at in-range header-in-range amount-in-range increment-in-range entries-in-range unused number-at increment-message
 first-longer = refl
 
-pub first-in-front : front-length (first ++ 7 ∷ 7 ∷ []) ≡ increment-length
-unfolding first front-length reads called-length message-at in-range header-in-range increment-in-range entries-in-range unused number-at increment-message
+pub first-in-front : front-length version-1 (first ++ 7 ∷ 7 ∷ []) ≡ 36
+unfolding first front-length reads called-length message-at in-range header-in-range amount-in-range increment-in-range entries-in-range unused number-at increment-message
 first-in-front = refl
+
+-- to a reader of version 2 they start with no message
+pub first-not-in-front : front-length version-2 (first ++ 7 ∷ 7 ∷ []) ≡ 0
+unfolding first front-length reads called-length message-at in-range header-in-range amount-in-range increment-in-range entries-in-range unused number-at increment-message
+first-not-in-front = refl
+
+-- the same with the version word 2, and with what follows
+pub renamed : List ℕ → List ℕ
+renamed rest = 0 ∷ 0 ∷ 0 ∷ 2 ∷ drop 4 first ++ rest
+
+-- "Card 0's first increment on counter 0, in hexadecimal:
+--  00000002 00000001 00000000 0000000000000001 00000000 0000000000000001 00000001 00000001"
+pub first-2 : List ℕ
+first-2 = renamed (0 ∷ 0 ∷ 0 ∷ 1 ∷ [])
+
+pub first-2-written : (message-bytes (increment-message version-2 0 1 0 1 1 1) ≡ first-2) × (length first-2 ≡ 40)
+unfolding first renamed first-2 message-bytes increment-bytes header-bytes bytes-of increment-message
+first-2-written = (refl, refl)
+
+pub first-2-reads : read-message first-2 ≡ record { number = 0; message = increment-message version-2 0 1 0 1 1 1 }
+unfolding first renamed first-2 read-message reads called-length message-at in-range header-in-range amount-in-range increment-in-range entries-in-range unused number-at increment-message
+first-2-reads = refl
+
+-- no amount, an amount of 0 and one of 65,536 do not read
+abbrev refused : List ℕ → Type 0
+refused s = read-message s ≡ record { number = unreadable; message = no-message }
+
+pub first-2-refused : refused (renamed []) × refused (renamed (0 ∷ 0 ∷ 0 ∷ 0 ∷ [])) × refused (renamed (0 ∷ 1 ∷ 0 ∷ 0 ∷ []))
+unfolding first renamed read-message reads called-length message-at in-range header-in-range amount-in-range increment-in-range entries-in-range unused number-at increment-message
+first-2-refused = (refl, refl, refl)
 
 -- entries (j, j + 1, j + 2) for the cards below n
 pub entries-to : ℕ → List ClearEntry
@@ -42,13 +72,13 @@ entries-to zero = []
 entries-to (suc n) = entries-to n ++ record { card = n; p = n + 1; c = n + 2 } ∷ []
 
 pub a-clear : ℕ → Message
-a-clear n = clear-message 3 258 63 (entries-to n)
+a-clear n = clear-message version-2 3 258 63 (entries-to n)
 
-pub clear-of-none : message-bytes (a-clear 0) ≡ 0 ∷ 0 ∷ 0 ∷ 1 ∷ 0 ∷ 0 ∷ 0 ∷ 2 ∷ 0 ∷ 0 ∷ 0 ∷ 3 ∷ 0 ∷ 0 ∷ 0 ∷ 0 ∷ 0 ∷ 0 ∷ 1 ∷ 2 ∷ 0 ∷ 0 ∷ 0 ∷ 63 ∷ 0 ∷ 0 ∷ 0 ∷ 0 ∷ []
+pub clear-of-none : message-bytes (a-clear 0) ≡ 0 ∷ 0 ∷ 0 ∷ 2 ∷ 0 ∷ 0 ∷ 0 ∷ 2 ∷ 0 ∷ 0 ∷ 0 ∷ 3 ∷ 0 ∷ 0 ∷ 0 ∷ 0 ∷ 0 ∷ 0 ∷ 1 ∷ 2 ∷ 0 ∷ 0 ∷ 0 ∷ 63 ∷ 0 ∷ 0 ∷ 0 ∷ 0 ∷ []
 unfolding a-clear entries-to message-bytes clear-bytes header-bytes entries-bytes bytes-of clear-message
 clear-of-none = refl
 
-pub clear-of-one : message-bytes (clear-message 15 1 0 (record { card = 2; p = 3; c = 260 } ∷ []))
+pub clear-of-one : message-bytes (clear-message version-1 15 1 0 (record { card = 2; p = 3; c = 260 } ∷ []))
     ≡ 0 ∷ 0 ∷ 0 ∷ 1 ∷ 0 ∷ 0 ∷ 0 ∷ 2 ∷ 0 ∷ 0 ∷ 0 ∷ 15 ∷ 0 ∷ 0 ∷ 0 ∷ 0 ∷ 0 ∷ 0 ∷ 0 ∷ 1 ∷ 0 ∷ 0 ∷ 0 ∷ 0 ∷ 0 ∷ 0 ∷ 0 ∷ 1
     ∷ 0 ∷ 0 ∷ 0 ∷ 2 ∷ 0 ∷ 0 ∷ 0 ∷ 0 ∷ 0 ∷ 0 ∷ 0 ∷ 3 ∷ 0 ∷ 0 ∷ 0 ∷ 0 ∷ 0 ∷ 0 ∷ 1 ∷ 4 ∷ []
 unfolding message-bytes clear-bytes header-bytes entries-bytes entry-bytes bytes-of clear-message

@@ -1,11 +1,11 @@
--- DEFINITIONS. One message: its bytes, the ranges of its fields, what bytes read as and what writing it leaves (SPECIFICATION 2).
--- A message has one form only as a struct: what its kind does not use is 0, and so are the entries past its length.
+-- DEFINITIONS. One message, of any version: its bytes, the ranges of its fields, what bytes read as and what writing it leaves (SPECIFICATION 2).
+-- A message has one form only as a struct: what its version and its kind do not use is 0, and so are the entries past its length.
 use Prim.Native.Nat.{ℕ, zero, suc, _+_, _-_, _*_}
 use mathlib.Core.List.{List, [], _∷_, _++_}
 use mathlib.Core.Bool.{Bool, true, cond, _&&_, _||_}
 use lib.ListN.{length, getD, take, drop, replicate}
 use lib.Dec.{leb, ltb, eqb}
-use Rattle.protocol.specs.Limits.{MAX, most-cards, most-counters, short-output, unreadable}
+use Rattle.protocol.specs.Limits.{MAX, most-cards, most-counters, most-amount, short-output, unreadable}
 use Rattle.protocol.specs.Checks.{checked, or-else, Check}
 use Rattle.protocol.specs.declared.ClearEntry.{ClearEntry}
 use Rattle.wire.specs.Number.{int-width, hyper-width, unsigned-int, unsigned-hyper, int-at, hyper-at}
@@ -13,10 +13,27 @@ pub use Rattle.wire.specs.declared.Message.{Message}
 pub use Rattle.wire.specs.declared.Reading.{Reading}
 pub use Rattle.wire.specs.declared.Written.{Written}
 
--- "version (unsigned int, 1); kind (enum, 1 increment, 2 clear)"
+-- ---- the versions: nothing else tells one from another
+
+-- "version (unsigned int, 1 or 2)"
 abbrev pub version-1 : ℕ
 version-1 = 1
 
+abbrev pub version-2 : ℕ
+version-2 = 2
+
+abbrev pub is-version : ℕ → Bool
+is-version version = leb version-1 version && leb version version-2
+
+-- "From version 2 on an increment has its amount."
+abbrev pub has-amount : ℕ → Bool
+has-amount version = leb version-2 version
+
+-- "counter (unsigned int, 0 to 63)": in every version it is below this
+abbrev pub counter-bound : ℕ → ℕ
+counter-bound version = most-counters
+
+-- "kind (enum, 1 increment, 2 clear)"
 abbrev pub increment-kind : ℕ
 increment-kind = 1
 
@@ -28,13 +45,17 @@ clear-kind = 2
 abbrev pub header-length : ℕ
 header-length = 24
 
--- "Increment: .. 36 bytes."
-abbrev pub increment-length : ℕ
-increment-length = 36
-
--- what an increment has behind its header
+-- what every increment has behind its header: p and start
 abbrev pub increment-body-length : ℕ
-increment-body-length = increment-length - header-length
+increment-body-length = 12
+
+-- what the amount takes, where the version has it
+abbrev pub amount-length : ℕ → ℕ
+amount-length version = cond (has-amount version) int-width 0
+
+-- "Increment: .. 36 bytes in version 1, 40 in version 2."
+abbrev pub increment-length : ℕ → ℕ
+increment-length version = header-length + increment-body-length + amount-length version
 
 abbrev pub entry-length : ℕ
 entry-length = 20
@@ -49,9 +70,9 @@ shortest-message = clear-length 0
 abbrev pub longest-message : ℕ
 longest-message = clear-length most-cards
 
--- of a message of a kind, with e entries if it is a clear
-abbrev pub length-of : ℕ → ℕ → ℕ
-length-of kind e = cond (eqb kind clear-kind) (clear-length e) increment-length
+-- of a message of a version and a kind, with e entries if it is a clear
+abbrev pub length-of : (version kind e : ℕ) → ℕ
+length-of version kind e = cond (eqb kind clear-kind) (clear-length e) (increment-length version)
 
 -- ---- where the fields stand, the version first: each where the one before it ends
 
@@ -67,12 +88,15 @@ sequence-at = sender-at + int-width
 abbrev pub counter-at : ℕ
 counter-at = sequence-at + hyper-width
 
--- behind the header: of an increment its p and its start, of a clear its length word and its entries
+-- behind the header: of an increment its p, its start and its amount, of a clear its length word and its entries
 abbrev pub p-at : ℕ
 p-at = header-length
 
 abbrev pub start-at : ℕ
 start-at = p-at + hyper-width
+
+abbrev pub amount-at : ℕ
+amount-at = start-at + int-width
 
 abbrev pub count-at : ℕ
 count-at = header-length
@@ -97,9 +121,13 @@ header-bytes-of version kind sender sequence counter =
 unfoldable pub header-bytes : Message → List ℕ
 header-bytes m = header-bytes-of (m .version) (m .kind) (m .sender) (m .sequence) (m .counter)
 
--- "Increment: p (unsigned hyper .. start (bool .. 36 bytes."
+-- "From version 2 on an increment has its amount."
+abbrev pub amount-bytes : (version amount : ℕ) → List ℕ
+amount-bytes version amount = cond (has-amount version) (unsigned-int amount) []
+
+-- "Increment: p (unsigned hyper .. start (bool .. amount (unsigned int"
 unfoldable pub increment-bytes : Message → List ℕ
-increment-bytes m = header-bytes m ++ unsigned-hyper (m .p) ++ unsigned-int (m .start)
+increment-bytes m = header-bytes m ++ unsigned-hyper (m .p) ++ unsigned-int (m .start) ++ amount-bytes (m .version) (m .amount)
 
 abbrev pub no-entry : ClearEntry
 no-entry = record { card = 0; p = 0; c = 0 }
@@ -121,7 +149,7 @@ unfoldable pub message-bytes : Message → List ℕ
 message-bytes m = cond (eqb (m .kind) clear-kind) (clear-bytes m) (increment-bytes m)
 
 abbrev pub message-length : Message → ℕ
-message-length m = length-of (m .kind) (m .len)
+message-length m = length-of (m .version) (m .kind) (m .len)
 
 -- ---- the ranges
 
@@ -131,20 +159,26 @@ from-one-to most x = leb 1 x && leb x most
 -- "sender (unsigned int, 0 to 15) .. sequence (unsigned hyper, 1 to MAX .. counter (unsigned int, 0 to 63)"
 unfoldable pub header-in-range : (version sender sequence counter : ℕ) → Bool
 header-in-range version sender sequence counter =
-    eqb version version-1 && ltb sender most-cards && from-one-to MAX sequence && ltb counter most-counters
+    is-version version && ltb sender most-cards && from-one-to MAX sequence && ltb counter (counter-bound version)
+
+-- "amount (unsigned int, 1 to 65,535)", where the version has it
+unfoldable pub amount-in-range : (version amount : ℕ) → Bool
+amount-in-range version amount = cond (has-amount version) (from-one-to most-amount amount) (eqb amount 0)
 
 -- "p (unsigned hyper, 1 to MAX), start (bool, 0 or 1)"
-unfoldable pub increment-in-range : (p start len : ℕ) → Bool
-increment-in-range p start len = from-one-to MAX p && leb start 1 && eqb len 0
+unfoldable pub increment-in-range : (p start : ℕ) → Bool
+increment-in-range p start = from-one-to MAX p && leb start 1
 
 -- "e from 0 to 16"
-unfoldable pub clear-in-range : (p start len : ℕ) → Bool
-clear-in-range p start len = eqb p 0 && eqb start 0 && leb len most-cards
+unfoldable pub clear-in-range : (p start amount len : ℕ) → Bool
+clear-in-range p start amount len = eqb p 0 && eqb start 0 && eqb amount 0 && leb len most-cards
 
 -- behind the header, by the kind
-abbrev pub body-in-range : (kind p start len : ℕ) → Bool
-body-in-range kind p start len =
-    cond (eqb kind increment-kind) (increment-in-range p start len) (eqb kind clear-kind && clear-in-range p start len)
+abbrev pub body-in-range : (version kind p start amount len : ℕ) → Bool
+body-in-range version kind p start amount len =
+    cond (eqb kind increment-kind)
+    (increment-in-range p start && amount-in-range version amount && eqb len 0)
+    (eqb kind clear-kind && clear-in-range p start amount len)
 
 -- "card (unsigned int, 0 to 15), p and c (unsigned hypers, 1 <= p <= c <= MAX)"; the card is `low` or above
 unfoldable pub entry-in-range : ℕ → ClearEntry → Bool
@@ -166,35 +200,37 @@ unused (e ∷ es) = entry-unused e && unused es
 unfoldable pub in-range : Message → Bool
 in-range m =
     header-in-range (m .version) (m .sender) (m .sequence) (m .counter)
-    && body-in-range (m .kind) (m .p) (m .start) (m .len)
+    && body-in-range (m .version) (m .kind) (m .p) (m .start) (m .amount) (m .len)
     && entries-in-range 0 (take (m .len) (m .entries))
     && unused (drop (m .len) (m .entries))
 
 -- ---- reading
 
--- the two kinds of message, from their fields
-unfoldable pub increment-message : (sender sequence counter p start : ℕ) → Message
-increment-message sender sequence counter p start = record {
-  version = version-1;
+-- the two kinds of message of a version, from their fields
+unfoldable pub increment-message : (version sender sequence counter p start amount : ℕ) → Message
+increment-message version sender sequence counter p start amount = record {
+  version = version;
   kind = increment-kind;
   sender = sender;
   sequence = sequence;
   counter = counter;
   p = p;
   start = start;
+  amount = amount;
   len = 0;
   entries = replicate most-cards no-entry;
 }
 
-unfoldable pub clear-message : (sender sequence counter : ℕ) → List ClearEntry → Message
-clear-message sender sequence counter es = record {
-  version = version-1;
+unfoldable pub clear-message : (version sender sequence counter : ℕ) → List ClearEntry → Message
+clear-message version sender sequence counter es = record {
+  version = version;
   kind = clear-kind;
   sender = sender;
   sequence = sequence;
   counter = counter;
   p = 0;
   start = 0;
+  amount = 0;
   len = length es;
   entries = es ++ replicate (most-cards - length es) no-entry;
 }
@@ -207,28 +243,34 @@ unfoldable pub entries-at : ℕ → List ℕ → ℕ → List ClearEntry
 entries-at zero s at = []
 entries-at (suc count) s at = entry-at s at ∷ entries-at count s (at + entry-length)
 
--- the increment and the clear whose fields stand in the bytes, whatever the version, the kind and the ranges
-abbrev pub increment-in : List ℕ → Message
-increment-in s = increment-message (int-at s sender-at) (hyper-at s sequence-at) (int-at s counter-at) (hyper-at s p-at) (int-at s start-at)
+-- the amount that stands at `at`, 0 where the version has none
+abbrev pub amount-in : ℕ → List ℕ → ℕ → ℕ
+amount-in version s at = cond (has-amount version) (int-at s at) 0
 
-abbrev pub clear-in : List ℕ → Message
-clear-in s = clear-message (int-at s sender-at) (hyper-at s sequence-at) (int-at s counter-at) (entries-at (int-at s count-at) s first-entry-at)
+-- the increment and the clear of a version whose fields stand in the bytes, whatever the kind and the ranges
+abbrev pub increment-in : ℕ → List ℕ → Message
+increment-in version s =
+    increment-message version (int-at s sender-at) (hyper-at s sequence-at) (int-at s counter-at) (hyper-at s p-at) (int-at s start-at) (amount-in version s amount-at)
+
+abbrev pub clear-in : ℕ → List ℕ → Message
+clear-in version s =
+    clear-message version (int-at s sender-at) (hyper-at s sequence-at) (int-at s counter-at) (entries-at (int-at s count-at) s first-entry-at)
 
 -- the one that the kind asks for
-unfoldable pub message-at : List ℕ → Message
-message-at s = cond (eqb (int-at s kind-at) clear-kind) (clear-in s) (increment-in s)
+unfoldable pub message-at : ℕ → List ℕ → Message
+message-at version s = cond (eqb (int-at s kind-at) clear-kind) (clear-in version s) (increment-in version s)
 
--- the length that the kind and the length word ask for
-unfoldable pub called-length : List ℕ → ℕ
-called-length s = length-of (int-at s kind-at) (int-at s count-at)
+-- the length that the version, the kind and the length word ask for
+unfoldable pub called-length : ℕ → List ℕ → ℕ
+called-length version s = length-of version (int-at s kind-at) (int-at s count-at)
 
--- "Bytes read only if every field is in range and the length is exact."
-unfoldable pub reads : List ℕ → Bool
-reads s =
-    eqb (int-at s 0) version-1
+-- whether the bytes are a message of this version: "Bytes read only if every field is in range and the length is exact."
+unfoldable pub reads : ℕ → List ℕ → Bool
+reads version s =
+    eqb (int-at s 0) version
     && (eqb (int-at s kind-at) increment-kind || eqb (int-at s kind-at) clear-kind)
-    && eqb (length s) (called-length s)
-    && in-range (message-at s)
+    && eqb (length s) (called-length version s)
+    && in-range (message-at version s)
 
 abbrev pub no-message : Message
 no-message = record {
@@ -239,6 +281,7 @@ no-message = record {
   counter = 0;
   p = 0;
   start = 0;
+  amount = 0;
   len = 0;
   entries = replicate most-cards no-entry;
 }
@@ -246,16 +289,21 @@ no-message = record {
 abbrev pub read-declined : ℕ → Reading
 read-declined number = record { number = number; message = no-message }
 
--- reading one alone: "6"
+-- the version that the bytes name
+abbrev pub version-in : List ℕ → ℕ
+version-in s = int-at s 0
+
+-- reading one alone, in the version that it names: "6"
 abbrev pub read-checks : List ℕ → List Check
-read-checks s = or-else (reads s) unreadable ∷ []
+read-checks s = or-else (reads (version-in s) s) unreadable ∷ []
 
 unfoldable pub read-message : List ℕ → Reading
-read-message s = checked read-declined (read-checks s) (record { number = 0; message = message-at s })
+read-message s = checked read-declined (read-checks s) (record { number = 0; message = message-at (version-in s) s })
 
--- the length of the message that a longer list of bytes starts with, 0 where it starts with none that reads
-unfoldable pub front-length : List ℕ → ℕ
-front-length s = cond (leb (called-length s) (length s) && reads (take (called-length s) s)) (called-length s) 0
+-- the length of the message of this version that a longer list of bytes starts with, 0 where it starts with none that reads
+unfoldable pub front-length : ℕ → List ℕ → ℕ
+front-length version s =
+    cond (leb (called-length version s) (length s) && reads version (take (called-length version s) s)) (called-length version s) 0
 
 -- ---- writing
 

@@ -3,8 +3,8 @@ use mathlib.Core.Path.{_≡_, ap}
 use Prim.Native.Nat.{ℕ, _+_}
 use mathlib.Core.List.{List}
 use Rattle.wire.specs.Number.{int-width, int-at, hyper-at}
-use Rattle.wire.specs.Message.{header-length, entry-length, kind-at, sender-at, sequence-at, counter-at, p-at, start-at, count-at, first-entry-at, entry-at}
-use Rattle.wire.specs.MessageParts.{Header, Increment, EntryRead, header-at, increment-at, entry-read-at}
+use Rattle.wire.specs.Message.{header-length, entry-length, kind-at, sender-at, sequence-at, counter-at, p-at, start-at, amount-at, count-at, first-entry-at, amount-in, entry-at}
+use Rattle.wire.specs.MessageParts.{Header, Increment, IntRead, EntryRead, header-at, increment-at, amount-read-at, entry-read-at}
 
 -- of the header at the front
 pub record HeaderRead (s : List ℕ) (h : Header) : Type 0 where
@@ -25,16 +25,20 @@ header-read s h e = record {
   behind = ap (λ (g : Header). g .behind) e;
 }
 
--- what stands behind it: p and start of an increment, the length word of a clear
+-- what stands behind it: p, start and the amount of an increment, the length word of a clear
 module _ (s : List ℕ) (h : Header) (header : h ≡ header-at s 0) where
   pub record IncrementRead (b : Increment) : Type 0 where
     pub p : b .p ≡ hyper-at s p-at
     pub start : b .start ≡ int-at s start-at
+    pub behind : b .behind ≡ amount-at
 
   pub increment-read : (b : Increment) → b ≡ increment-at s (h .behind) → IncrementRead b
   increment-read b e =
       let front = rw (header-read s h header .behind) at e in
-      record { p = ap (λ (g : Increment). g .p) front; start = ap (λ (g : Increment). g .start) front }
+      record { p = ap (λ (g : Increment). g .p) front; start = ap (λ (g : Increment). g .start) front; behind = ap (λ (g : Increment). g .behind) front }
+
+  pub amount-read : (version : ℕ) (b : Increment) → b ≡ increment-at s (h .behind) → (r : IntRead) → r ≡ amount-read-at version s (b .behind) → r .number ≡ amount-in version s amount-at
+  amount-read version b body r e = rw (increment-read b body .behind) at (ap (λ (g : IntRead). g .number) e)
 
   pub record CountRead (n at : ℕ) : Type 0 where
     pub number : n ≡ int-at s count-at

@@ -1,13 +1,14 @@
--- LAWS. Ranges as the code tests them: one that starts at 1 by one comparison of a wrapped difference, and an entry a range at a time.
-use mathlib.Core.Path.{_≡_, sym, _∙_}
-use mathlib.Core.Bool.{Bool, _&&_, and-assoc}
+-- LAWS. Ranges as the code tests them: one that starts at 1 by one comparison of a wrapped difference, an entry a range at a time, and a header apart from its version.
+use mathlib.Core.Path.{_≡_, refl, sym, _∙_}
+use mathlib.Core.Bool.{Bool, true, false, _&&_, and-assoc}
 use Prim.Native.Nat.{ℕ, suc, _+_, _%_, _^_, _<_}
 use native.Mathlib.Nat.{mod-eq-of-lt}
 use native.Mathlib.Omega.{arith}
 use lib.Dec.{leb, ltb}
 use borrow.Author.Tests.{lt-ltb, le-ltb, le-leb, lt-leb}
+use Rattle.protocol.specs.Limits.{MAX, most-cards, most-counters}
 use Rattle.protocol.specs.Cases.{by-le}
-use Rattle.wire.specs.Message.{from-one-to}
+use Rattle.wire.specs.Message.{is-version, from-one-to, header-in-range}
 
 -- r is x - 1 in 64 bits: 0 wraps past every bound
 pub wrapped-below : (r x most : ℕ) → r < 2 ^ 64 → most < 2 ^ 64 → (r + 1) % 2 ^ 64 ≡ x → ltb r most ≡ from-one-to most x
@@ -39,3 +40,21 @@ pub entry-tests : (a b : Bool) (p c most : ℕ) → a && b && from-one-to c p &&
 entry-tests a b p c most =
     and-assoc (a && b) (from-one-to c p) (from-one-to most c)
     ∙ rw (from-one-twice p c most, ← and-assoc (a && b) (from-one-to c p) (leb c most), ← and-assoc (a && b) (leb 1 p) (leb p c))
+
+-- ---- a header but for its version
+
+abbrev pub rest-in-range : (sender sequence counter : ℕ) → Bool
+rest-in-range sender sequence counter = ltb sender most-cards && from-one-to MAX sequence && ltb counter most-counters
+
+and-first : (a b c d : Bool) → a && (b && c && d) ≡ a && b && c && d
+and-first true b c d = refl
+and-first false b c d = refl
+
+module _ (version sender sequence counter : ℕ) where
+  pub header-parts : is-version version && rest-in-range sender sequence counter ≡ header-in-range version sender sequence counter
+  unfolding header-in-range
+  header-parts = and-first (is-version version) (ltb sender most-cards) (from-one-to MAX sequence) (ltb counter most-counters)
+
+  pub known-header : is-version version ≡ true → rest-in-range sender sequence counter ≡ header-in-range version sender sequence counter
+  unfolding header-in-range
+  known-header known = rw known

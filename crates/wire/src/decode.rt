@@ -1,15 +1,17 @@
 // Bytes to a message. Each part is read from the position that the part before it answered. The public calls are `read_message` and
 // `front_length`; `reads` and `called_length_of` are internal functions, for callers that test the bytes first and hold no more of them than they need.
+// Those that are given a version take messages of that version only.
 use crate::CLEAR;
 use crate::EMPTY_CLEAR_BYTES;
 use crate::INCREMENT;
-use crate::INCREMENT_BYTES;
 use crate::MOST_ENTRIES;
 use crate::Message;
 use crate::NO_ENTRY;
 use crate::Reading;
-use crate::VERSION;
 use crate::clear_length;
+use crate::has_amount;
+use crate::increment_length;
+use crate::is_version;
 use crate::range;
 use crate::reader;
 use crate::reader::Header;
@@ -18,19 +20,27 @@ ghost use mathlib.Core.Bool.{true};
 ghost use Prim.Native.Nat.{_+_, _*_, _≤_};
 ghost use lib.ListN.{length};
 ghost use Rattle.protocol.specs.Limits.{unreadable};
-ghost use Rattle.wire.specs.Message.{version-1, increment-kind, clear-kind, entry-length, shortest-message, entries-at, entries-in-range, called-length, message-at, reads, read-declined, read-message, front-length};
+ghost use Rattle.wire.specs.Message.{is-version, increment-kind, clear-kind, entry-length, shortest-message, entries-at, entries-in-range, called-length, message-at, reads, read-declined, read-message, front-length};
 ghost use Rattle.wire.specs.MessageParts.{header-at};
 
-fn does_increment_read(bytes: &[u8], header: Header) -> bool
-    requires { ⌜ (header ≡ header-at (now bytes) 0) × (header .version ≡ version-1) × (header .kind ≡ increment-kind) ⌝ }
-    ensures { λ a. ⌜ a ≡ reads (now (bytes .entry)) ⌝ }
+fn does_increment_read(bytes: &[u8], version: u32, header: Header) -> bool
+    requires { ⌜ (header ≡ header-at (now bytes) 0) × (header .version ≡ version) × (header .kind ≡ increment-kind) × (is-version version ≡ true) ⌝ }
+    ensures { λ a. ⌜ a ≡ reads version (now (bytes .entry)) ⌝ }
 {
-    if bytes.len() != INCREMENT_BYTES {
+    if bytes.len() != increment_length(version) {
         return false;
     }
     let body = reader::increment_from(bytes, header.behind);
-    range::header_in_range(VERSION, header.sender, header.sequence, header.counter)
-        & range::body_in_range(INCREMENT, body.p, body.start, 0)
+    // Tested before the amount is read: where p is used only past a branch, the compiler puts it together byte by byte.
+    if !range::increment_in_range(body.p, body.start) {
+        return false;
+    }
+    let rest = range::rest_in_range(header.sender, header.sequence, header.counter);
+    if has_amount(version) {
+        let amount = reader::next_int(bytes, body.behind);
+        return rest & range::is_amount(amount.number);
+    }
+    rest
 }
 
 // The entries from `at` on.
@@ -54,9 +64,9 @@ fn are_entries_in_range(bytes: &[u8], at: usize, count: usize) -> bool
     true
 }
 
-fn does_clear_read(bytes: &[u8], header: Header) -> bool
-    requires { ⌜ (header ≡ header-at (now bytes) 0) × (header .version ≡ version-1) × (header .kind ≡ clear-kind) × (shortest-message ≤ length (now bytes)) ⌝ }
-    ensures { λ a. ⌜ a ≡ reads (now (bytes .entry)) ⌝ }
+fn does_clear_read(bytes: &[u8], version: u32, header: Header) -> bool
+    requires { ⌜ (header ≡ header-at (now bytes) 0) × (header .version ≡ version) × (header .kind ≡ clear-kind) × (shortest-message ≤ length (now bytes)) × (is-version version ≡ true) ⌝ }
+    ensures { λ a. ⌜ a ≡ reads version (now (bytes .entry)) ⌝ }
 {
     let count = reader::next_int(bytes, header.behind);
     let len = count.number as usize;
@@ -66,46 +76,61 @@ fn does_clear_read(bytes: &[u8], header: Header) -> bool
     if bytes.len() != clear_length(len) {
         return false;
     }
-    range::header_in_range(VERSION, header.sender, header.sequence, header.counter)
+    range::rest_in_range(header.sender, header.sequence, header.counter)
         & are_entries_in_range(bytes, count.behind, len)
 }
 
-// Whether the bytes are a message. It holds no message, so that testing those of a log costs no struct.
-// Ruled out: a test that takes another length than the message's (must-fail/increment_of_37_bytes), and one that takes a clear
-// whose cards do not rise (must-fail/cards_may_repeat).
-pub fn reads(bytes: &[u8]) -> bool
-    ensures { λ a. ⌜ a ≡ reads (now (bytes .entry)) ⌝ }
+// Whether the bytes, no fewer than the shortest message has, are a message of this version. `read_message` calls it as well as `reads`: with one
+// caller it would be compiled into `reads`, and `reads`, then long, into none of its callers.
+fn does_read(bytes: &[u8], version: u32) -> bool
+    requires { ⌜ (is-version version ≡ true) × (shortest-message ≤ length (now bytes)) ⌝ }
+    ensures { λ a. ⌜ a ≡ reads version (now (bytes .entry)) ⌝ }
 {
-    if bytes.len() < EMPTY_CLEAR_BYTES {
-        return false;
-    }
     let header = reader::header_from(bytes, 0);
-    if header.version != VERSION {
+    if header.version != version {
         return false;
     }
     if header.kind == INCREMENT {
-        return does_increment_read(bytes, header);
+        return does_increment_read(bytes, version, header);
     }
     if header.kind == CLEAR {
-        return does_clear_read(bytes, header);
+        return does_clear_read(bytes, version, header);
     }
     false
 }
 
+// Whether the bytes are a message of this version. It holds no message, so that testing those of a log costs no struct.
+// The version is tested here and not in `does_read`: in a caller that names it, that test is gone when the caller runs.
+// Ruled out: a test that takes another length than the message's (must-fail/increment_of_37_bytes), one that takes a clear
+// whose cards do not rise (must-fail/cards_may_repeat), and one that takes another version (must-fail/another_version).
+pub fn reads(bytes: &[u8], version: u32) -> bool
+    ensures { λ a. ⌜ a ≡ reads version (now (bytes .entry)) ⌝ }
+{
+    if !is_version(version) {
+        return false;
+    }
+    if bytes.len() < EMPTY_CLEAR_BYTES {
+        return false;
+    }
+    does_read(bytes, version)
+}
+
 // The message that bytes stand for, where they read.
 fn increment_message(bytes: &[u8], header: Header) -> Message
-    requires { ⌜ (reads (now bytes) ≡ true) × (header ≡ header-at (now bytes) 0) × (header .kind ≡ clear-kind → ⊥) ⌝ }
-    ensures { λ m. ⌜ m ≡ message-at (now (bytes .entry)) ⌝ }
+    requires { ⌜ (reads (header .version) (now bytes) ≡ true) × (header ≡ header-at (now bytes) 0) × (header .kind ≡ clear-kind → ⊥) ⌝ }
+    ensures { λ m. ⌜ m ≡ message-at (header .version) (now (bytes .entry)) ⌝ }
 {
     let body = reader::increment_from(bytes, header.behind);
+    let amount = reader::amount_from(bytes, header.version, body.behind);
     Message {
-        version: VERSION,
+        version: header.version,
         kind: INCREMENT,
         sender: header.sender,
         sequence: header.sequence,
         counter: header.counter,
         p: body.p,
         start: body.start,
+        amount: amount.number,
         len: 0,
         entries: [NO_ENTRY; MOST_ENTRIES],
     }
@@ -113,19 +138,20 @@ fn increment_message(bytes: &[u8], header: Header) -> Message
 
 // "Once read, a clear message is held whole, with all of its entries."
 fn clear_message(bytes: &[u8], header: Header) -> Message
-    requires { ⌜ (reads (now bytes) ≡ true) × (header ≡ header-at (now bytes) 0) × (header .kind ≡ clear-kind) ⌝ }
-    ensures { λ m. ⌜ m ≡ message-at (now (bytes .entry)) ⌝ }
+    requires { ⌜ (reads (header .version) (now bytes) ≡ true) × (header ≡ header-at (now bytes) 0) × (header .kind ≡ clear-kind) ⌝ }
+    ensures { λ m. ⌜ m ≡ message-at (header .version) (now (bytes .entry)) ⌝ }
 {
     let count = reader::next_int(bytes, header.behind);
     let len = count.number as usize;
     let mut m = Message {
-        version: VERSION,
+        version: header.version,
         kind: CLEAR,
         sender: header.sender,
         sequence: header.sequence,
         counter: header.counter,
         p: 0,
         start: 0,
+        amount: 0,
         len,
         entries: [NO_ENTRY; MOST_ENTRIES],
     };
@@ -142,8 +168,8 @@ fn clear_message(bytes: &[u8], header: Header) -> Message
 }
 
 fn message_from(bytes: &[u8], header: Header) -> Message
-    requires { ⌜ (reads (now bytes) ≡ true) × (header ≡ header-at (now bytes) 0) ⌝ }
-    ensures { λ m. ⌜ m ≡ message-at (now (bytes .entry)) ⌝ }
+    requires { ⌜ (reads (header .version) (now bytes) ≡ true) × (header ≡ header-at (now bytes) 0) ⌝ }
+    ensures { λ m. ⌜ m ≡ message-at (header .version) (now (bytes .entry)) ⌝ }
 {
     if header.kind == CLEAR {
         return clear_message(bytes, header);
@@ -162,6 +188,7 @@ fn refuse() -> Reading
         counter: 0,
         p: 0,
         start: 0,
+        amount: 0,
         len: 0,
         entries: [NO_ENTRY; MOST_ENTRIES],
     };
@@ -171,46 +198,53 @@ fn refuse() -> Reading
     }
 }
 
-// The message that the bytes stand for, or `UNREADABLE` and zeros.
+// The message, of any version, that the bytes stand for, or `UNREADABLE` and zeros.
 // Ruled out: a reader that takes another length than the message's (must-fail/increment_of_37_bytes), and one that takes a clear
 // whose cards do not rise (must-fail/cards_may_repeat).
 pub fn read_message(bytes: &[u8]) -> Reading
     ensures { λ r. ⌜ r ≡ read-message (now (bytes .entry)) ⌝ }
 {
-    if reads(bytes) {
-        let message = message_from(bytes, reader::header_from(bytes, 0));
+    if bytes.len() < EMPTY_CLEAR_BYTES {
+        return refuse();
+    }
+    let header = reader::header_from(bytes, 0);
+    if !is_version(header.version) {
+        return refuse();
+    }
+    if does_read(bytes, header.version) {
+        let message = message_from(bytes, header);
         return Reading { number: 0, message };
     }
     refuse()
 }
 
-// The length that the kind and the length word ask for, where the header and that word are there.
+// The length that the kind and the length word ask for in this version, where the header and that word are there.
 // Ruled out: a length that leaves the kind out of account, and one that is not the increment's (must-fail/increment_of_37_bytes).
-pub fn called_length_of(bytes: &[u8]) -> usize
+pub fn called_length_of(bytes: &[u8], version: u32) -> usize
     requires { ⌜ shortest-message ≤ length (now bytes) ⌝ }
-    ensures { λ r. ⌜ r ≡ called-length (now (bytes .entry)) ⌝ }
+    ensures { λ r. ⌜ r ≡ called-length version (now (bytes .entry)) ⌝ }
 {
     let header = reader::header_from(bytes, 0);
     if header.kind == CLEAR {
         let count = reader::next_int(bytes, header.behind);
         return clear_length(count.number as usize);
     }
-    INCREMENT_BYTES
+    increment_length(version)
 }
 
-// The length of the message that the bytes start with, 0 where they start with none that reads.
+// The length of the message of this version that the bytes start with, 0 where they start with none that reads.
 // Ruled out: the called length of bytes that do not read, and 0 for a message with other bytes after it.
-pub fn front_length(bytes: &[u8]) -> usize
-    ensures { λ r. ⌜ (r ≡ front-length (now (bytes .entry))) × (r ≤ length (now (bytes .entry))) ⌝ }
+pub fn front_length(bytes: &[u8], version: u32) -> usize
+    ensures { λ r. ⌜ (r ≡ front-length version (now (bytes .entry))) × (r ≤ length (now (bytes .entry))) ⌝ }
 {
     if bytes.len() < EMPTY_CLEAR_BYTES {
         return 0;
     }
-    let called = called_length_of(bytes);
+    let called = called_length_of(bytes, version);
     if bytes.len() < called {
         return 0;
     }
-    if reads(&bytes[..called]) {
+    if reads(&bytes[..called], version) {
         return called;
     }
     0

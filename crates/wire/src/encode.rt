@@ -5,12 +5,12 @@ use crate::EMPTY_CLEAR_BYTES;
 use crate::ENTRY_BYTES;
 use crate::HEADER_BYTES;
 use crate::INCREMENT;
-use crate::INCREMENT_BYTES;
 use crate::MOST_ENTRIES;
 use crate::Message;
-use crate::VERSION;
 use crate::Written;
 use crate::clear_length;
+use crate::has_amount;
+use crate::increment_length;
 use crate::number;
 use crate::number::HYPER_BYTES;
 use crate::number::INT_BYTES;
@@ -33,10 +33,12 @@ const SEQUENCE_AT: usize = SENDER_AT + INT_BYTES;
 
 const COUNTER_AT: usize = SEQUENCE_AT + HYPER_BYTES;
 
-// Behind the header: of an increment p and start, of a clear the length word and the entries.
+// Behind the header: of an increment p, start and the amount, of a clear the length word and the entries.
 const P_AT: usize = HEADER_BYTES;
 
 const START_AT: usize = P_AT + HYPER_BYTES;
+
+const AMOUNT_AT: usize = START_AT + INT_BYTES;
 
 const LEN_AT: usize = HEADER_BYTES;
 
@@ -59,14 +61,27 @@ fn put_header(version: u32, kind: u32, sender: u32, sequence: u64, counter: u32,
 }
 
 // Writes an increment where there is room for it, whatever its numbers.
-// Ruled out: a number at another's place, and a byte past the increment that changes.
-pub fn put_increment(sender: u32, sequence: u64, counter: u32, p: u64, start: u32, out: &mut [u8])
-    requires { ⌜ increment-length ≤ length (now out) ⌝ }
-    ensures { λ _. ⌜ now (out .exit) ≡ over (message-bytes (increment-message sender sequence counter p start)) (now (out .entry)) ⌝ }
+// Ruled out: a number at another's place, an amount in version 1, and a byte past the increment that changes.
+pub fn put_increment(
+    version: u32,
+    sender: u32,
+    sequence: u64,
+    counter: u32,
+    p: u64,
+    start: u32,
+    amount: u32,
+    out: &mut [u8],
+)
+    requires { ⌜ increment-length version ≤ length (now out) ⌝ }
+    ensures { λ _. ⌜ now (out .exit) ≡ over (message-bytes (increment-message version sender sequence counter p start amount)) (now (out .entry)) ⌝ }
 {
-    put_header(VERSION, INCREMENT, sender, sequence, counter, out);
+    put_header(version, INCREMENT, sender, sequence, counter, out);
     number::write_u64(out, P_AT, p);
     number::write_u32(out, START_AT, start);
+    if !has_amount(version) {
+        return;
+    }
+    number::write_u32(out, AMOUNT_AT, amount);
 }
 
 // Writes a clear where there is room for it, whatever its numbers.
@@ -99,16 +114,16 @@ fn place_in_range(used: bool, low: u64, entry: ClearEntry) -> bool
     range::entry_unused(entry)
 }
 
-// The length of a message of this kind with `len` entries.
+// The length of a message of this version and kind with `len` entries.
 // Ruled out: a clear's length without its entries, and another length than the increment's (must-fail/increment_of_37_bytes).
-pub fn length_of(kind: u32, len: usize) -> usize
+pub fn length_of(version: u32, kind: u32, len: usize) -> usize
     requires { ⌜ len ≤ most-cards ⌝ }
-    ensures { λ r. ⌜ r ≡ length-of kind len ⌝ }
+    ensures { λ r. ⌜ r ≡ length-of version kind len ⌝ }
 {
     if kind == CLEAR {
         return clear_length(len);
     }
-    INCREMENT_BYTES
+    increment_length(version)
 }
 
 fn decline(number: u64) -> Written
@@ -118,7 +133,7 @@ fn decline(number: u64) -> Written
 }
 
 // Writes the message from the first byte on, or declines with `UNREADABLE`, then `SHORT_OUTPUT`, and leaves every byte. A message has one form: what
-// its kind does not use is 0. Its places are tested here and not in a function that it is passed to, which would copy it.
+// its version and its kind do not use is 0. Its places are tested here and not in a function that it is passed to, which would copy it.
 // Ruled out: a writer that takes a message in another form than its one (must-fail/unused_not_zero), and one that touches a byte
 // past the message (must-fail/entry_past_the_last).
 pub fn write_message(m: Message, out: &mut [u8]) -> Written
@@ -126,7 +141,7 @@ pub fn write_message(m: Message, out: &mut [u8]) -> Written
 {
     let len = m.len;
     let header = range::header_in_range(m.version, m.sender, m.sequence, m.counter);
-    if !(header & range::body_in_range(m.kind, m.p, m.start, len)) {
+    if !(header & range::body_in_range(m.version, m.kind, m.p, m.start, m.amount, len)) {
         return decline(protocol::UNREADABLE);
     }
     let mut low: u64 = 0;
@@ -139,7 +154,7 @@ pub fn write_message(m: Message, out: &mut [u8]) -> Written
         low = range::next_card(entry);
         i += 1;
     }
-    let length = length_of(m.kind, len);
+    let length = length_of(m.version, m.kind, len);
     if out.len() < length {
         return decline(protocol::SHORT_OUTPUT);
     }
@@ -147,6 +162,15 @@ pub fn write_message(m: Message, out: &mut [u8]) -> Written
         put_clear(m, out);
         return Written { number: 0, length };
     }
-    put_increment(m.sender, m.sequence, m.counter, m.p, m.start, out);
+    put_increment(
+        m.version,
+        m.sender,
+        m.sequence,
+        m.counter,
+        m.p,
+        m.start,
+        m.amount,
+        out,
+    );
     Written { number: 0, length }
 }

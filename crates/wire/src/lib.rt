@@ -2,7 +2,7 @@
 use protocol::ClearEntry;
 ghost use mathlib.Core.Path.{_≡_};
 ghost use Prim.Native.Nat.{_<_, _^_};
-ghost use Rattle.wire.specs.Message.{clear-length};
+ghost use Rattle.wire.specs.Message.{is-version, has-amount, increment-length, clear-length};
 
 pub mod decode;
 pub mod encode;
@@ -10,17 +10,22 @@ pub mod number;
 mod range;
 pub mod reader;
 
-pub const VERSION: u32 = 1;
+// The versions. From version 2 on an increment has its amount, and that is all that tells them apart.
+pub const VERSION_1: u32 = 1;
+
+pub const VERSION_2: u32 = 2;
 
 // The two kinds of message.
 pub const INCREMENT: u32 = 1;
 
 pub const CLEAR: u32 = 2;
 
-// The lengths of a header, of an increment, of a clear without entries and of an entry.
+// The lengths of a header, of an increment without its amount and with it, of a clear without entries and of an entry.
 const HEADER_BYTES: usize = 24;
 
-pub const INCREMENT_BYTES: usize = 36;
+const PLAIN_INCREMENT_BYTES: usize = 36;
+
+pub const INCREMENT_BYTES: usize = 40;
 
 const EMPTY_CLEAR_BYTES: usize = 28;
 
@@ -36,7 +41,8 @@ pub const NO_ENTRY: ClearEntry = ClearEntry {
     c: 0,
 };
 
-// A message held whole: an increment uses `p` and `start`, a clear the first `len` entries. What its kind does not use is zero.
+// A message held whole: an increment uses `p`, `start` and from version 2 on `amount`, a clear the first `len` entries. What its version and its
+// kind do not use is zero.
 #[repr(C)]
 pub struct Message {
     pub version: u32,
@@ -46,6 +52,7 @@ pub struct Message {
     pub counter: u32,
     pub p: u64,
     pub start: u32,
+    pub amount: u32,
     pub len: usize,
     pub entries: [ClearEntry; MOST_ENTRIES],
 }
@@ -62,6 +69,28 @@ pub struct Reading {
 pub struct Written {
     pub number: u64,
     pub length: usize,
+}
+
+fn is_version(version: u32) -> bool
+    ensures { λ r. ⌜ r ≡ is-version version ⌝ }
+{
+    (VERSION_1 <= version) & (version <= VERSION_2)
+}
+
+fn has_amount(version: u32) -> bool
+    ensures { λ r. ⌜ r ≡ has-amount version ⌝ }
+{
+    VERSION_2 <= version
+}
+
+// Ruled out: one length for all versions, and one that is not the increment's (must-fail/increment_of_37_bytes).
+fn increment_length(version: u32) -> usize
+    ensures { λ r. ⌜ r ≡ increment-length version ⌝ }
+{
+    if has_amount(version) {
+        return INCREMENT_BYTES;
+    }
+    PLAIN_INCREMENT_BYTES
 }
 
 // The length of a clear with so many entries, as many as a length word can say.

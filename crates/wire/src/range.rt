@@ -2,11 +2,14 @@
 use crate::CLEAR;
 use crate::INCREMENT;
 use crate::MOST_ENTRIES;
-use crate::VERSION;
+use crate::has_amount;
+use crate::is_version;
 use protocol::ClearEntry;
 ghost use mathlib.Core.Path.{_≡_};
 ghost use Prim.Native.Nat.{_+_};
-ghost use Rattle.wire.specs.Message.{from-one-to, header-in-range, body-in-range, entry-in-range, entry-unused};
+ghost use Rattle.protocol.specs.Limits.{most-amount};
+ghost use Rattle.wire.specs.Message.{from-one-to, header-in-range, amount-in-range, increment-in-range, body-in-range, entry-in-range, entry-unused};
+ghost use Rattle.wire.specs.RangeLaws.{rest-in-range};
 
 const MOST_CARDS: u32 = protocol::MOST_CARDS as u32;
 
@@ -19,23 +22,56 @@ fn from_one(x: u64, most: u64) -> bool
     std::num::wrapping_sub_u64(x, 1) < most
 }
 
+// A header but for its version.
+pub(crate) fn rest_in_range(sender: u32, sequence: u64, counter: u32) -> bool
+    ensures { λ r. ⌜ r ≡ rest-in-range sender sequence counter ⌝ }
+{
+    (sender < MOST_CARDS) & from_one(sequence, protocol::MAX) & (counter < MOST_COUNTERS)
+}
+
 pub(crate) fn header_in_range(version: u32, sender: u32, sequence: u64, counter: u32) -> bool
     ensures { λ r. ⌜ r ≡ header-in-range version sender sequence counter ⌝ }
 {
-    (version == VERSION)
-        & (sender < MOST_CARDS)
-        & from_one(sequence, protocol::MAX)
-        & (counter < MOST_COUNTERS)
+    is_version(version) & rest_in_range(sender, sequence, counter)
 }
 
-// What the kind asks of the numbers past the header: those that it does not use are 0.
-pub(crate) fn body_in_range(kind: u32, p: u64, start: u32, len: usize) -> bool
-    ensures { λ r. ⌜ r ≡ body-in-range kind p start len ⌝ }
+pub(crate) fn increment_in_range(p: u64, start: u32) -> bool
+    ensures { λ r. ⌜ r ≡ increment-in-range p start ⌝ }
+{
+    from_one(p, protocol::MAX) & (start <= 1)
+}
+
+// The amount of a version that has one.
+pub(crate) fn is_amount(amount: u32) -> bool
+    ensures { λ r. ⌜ r ≡ from-one-to most-amount amount ⌝ }
+{
+    from_one(amount as u64, protocol::MOST_AMOUNT)
+}
+
+pub(crate) fn amount_in_range(version: u32, amount: u32) -> bool
+    ensures { λ r. ⌜ r ≡ amount-in-range version amount ⌝ }
+{
+    if has_amount(version) {
+        return is_amount(amount);
+    }
+    amount == 0
+}
+
+// What the version and the kind ask of the numbers past the header: those that they do not use are 0.
+pub(crate) fn body_in_range(
+    version: u32,
+    kind: u32,
+    p: u64,
+    start: u32,
+    amount: u32,
+    len: usize,
+) -> bool
+    ensures { λ r. ⌜ r ≡ body-in-range version kind p start amount len ⌝ }
 {
     if kind == INCREMENT {
-        return from_one(p, protocol::MAX) & (start <= 1) & (len == 0);
+        return increment_in_range(p, start) & amount_in_range(version, amount) & (len == 0);
     }
-    (kind == CLEAR) & ((p == 0) & (start == 0) & (len <= MOST_ENTRIES))
+    (kind == CLEAR) & ((p == 0) & (start == 0) & (amount == 0) & (len <= MOST_ENTRIES))
 }
 
 // Cards rise strictly: the entry's card is `low` or above.

@@ -3,6 +3,7 @@
 // the work to `number`, and are proved by hand. `next` reads one number through a reader and answers the position behind it; what reads a part of a
 // message begins each number where the one before it ended, answers the position behind the part, and needs no proof by hand.
 // All are internal functions: the callers have tested the length.
+use crate::has_amount;
 use crate::number;
 use crate::number::HYPER_BYTES;
 use crate::number::INT_BYTES;
@@ -11,8 +12,8 @@ ghost use mathlib.Core.Path.{_≡_};
 ghost use Prim.Native.Nat.{_+_, _≤_};
 ghost use lib.ListN.{length};
 ghost use Rattle.wire.specs.Number.{int-width, hyper-width, number-at, int-at};
-ghost use Rattle.wire.specs.Message.{header-length, increment-body-length, entry-length};
-ghost use Rattle.wire.specs.MessageParts.{header-at, increment-at, entry-read-at};
+ghost use Rattle.wire.specs.Message.{header-length, increment-body-length, amount-length, entry-length};
+ghost use Rattle.wire.specs.MessageParts.{header-at, increment-at, amount-read-at, entry-read-at};
 
 pub(crate) struct Reader<'a> {
     pub src: &'a [u8],
@@ -40,7 +41,7 @@ pub struct Header {
     pub behind: usize,
 }
 
-// What an increment has after its header, and the position behind it.
+// What every increment has after its header, and the position behind it.
 pub struct Increment {
     pub p: u64,
     pub start: u32,
@@ -133,6 +134,21 @@ pub fn increment_from(bytes: &[u8], at: usize) -> Increment
         p: p.number,
         start: start.number,
         behind: start.behind,
+    }
+}
+
+// The amount behind that; where the version has none, 0 and no bytes.
+// Ruled out: an amount in version 1 (must-fail/amount_in_version_1), and `start` taken for the amount.
+pub(crate) fn amount_from(bytes: &[u8], version: u32, at: usize) -> IntRead
+    requires { ⌜ at + amount-length version ≤ length (now bytes) ⌝ }
+    ensures { λ r. ⌜ r ≡ amount-read-at version (now (bytes .entry)) at ⌝ }
+{
+    if has_amount(version) {
+        return next_int(bytes, at);
+    }
+    IntRead {
+        number: 0,
+        behind: at,
     }
 }
 

@@ -32,12 +32,17 @@ pub extern "C" fn yelansub_read(words: &[u64], counter: u64) -> Reading
     replica::read::read(words, counter)
 }
 
-// Ruled out: a clear in place of a count, and a message that is not written.
+// Ruled out: a clear in place of a count, another amount, and a message that is not written.
 #[no_mangle]
-pub extern "C" fn yelansub_count(words: &mut [u64], counter: u64, out: &mut [u8]) -> Sent
-    ensures { λ a. ⌜ _≡_ {A = SendOutcome} (record { answer = a; words = now (words .exit); out = now (out .exit) }) (count-on (now (words .entry)) counter (now (out .entry))) ⌝ }
+pub extern "C" fn yelansub_count(
+    words: &mut [u64],
+    counter: u64,
+    amount: u64,
+    out: &mut [u8],
+) -> Sent
+    ensures { λ a. ⌜ _≡_ {A = SendOutcome} (record { answer = a; words = now (words .exit); out = now (out .exit) }) (count-on (now (words .entry)) counter amount (now (out .entry))) ⌝ }
 {
-    replica::counting::count(words, counter, out)
+    replica::counting::count(words, counter, amount, out)
 }
 
 // Ruled out: a count in place of a clear, and an own replica that is not cleared.

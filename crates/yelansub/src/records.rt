@@ -1,4 +1,4 @@
-// A run of steps that the host lends as records of three numbers, above the step core that the run over bytes uses.
+// A run of steps that the host lends as records of four numbers, above the step core that the run over bytes uses.
 use chassis::Sizes;
 use chassis::begin;
 use chassis::stepping;

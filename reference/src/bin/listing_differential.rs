@@ -5,7 +5,7 @@ use std::io::Write;
 use std::process::{Command, Stdio};
 
 use yelansub_reference::chassis::Step;
-use yelansub_reference::limits::{self, STEP_BYTES};
+use yelansub_reference::limits::{self, MOST_AMOUNT, STEP_BYTES};
 use yelansub_reference::listing::{listing, LONGEST_INPUT, SIZES_BYTES};
 use yelansub_reference::listing::{MOST_CARDS, MOST_COUNTERS, MOST_STEPS};
 use yelansub_reference::random::Random;
@@ -80,12 +80,17 @@ fn input(random: &mut Random) -> Vec<u8> {
 fn step(random: &mut Random, r: u32, k: u32) -> Step {
     let odd = u64::from(random.percent(4));
     let card = random.below(u64::from(r) + odd) as u32;
-    match random.below(16 + 2 * odd) {
-        0..=5 => Step::count(card, random.below(u64::from(k) + odd) as u32),
-        6 => Step::clear(card, random.below(u64::from(k) + odd) as u32),
-        7 => Step::read_and_clear(card, random.below(u64::from(k) + odd) as u32),
-        16 => Step { kind: random.word() as u32, first: card, second: 0 },
-        17 => Step { kind: random.pick(&NO_KINDS), first: card, second: 0 },
+    let counter = random.below(u64::from(k) + odd) as u32;
+    let mut step = match random.below(16 + 2 * odd) {
+        0..=5 => Step::count_by(card, counter, random.amount()),
+        6 => Step::clear(card, counter),
+        7 => Step::read_and_clear(card, counter),
+        16 => Step { kind: random.word() as u32, ..Step::clear(card, 0) },
+        17 => Step { kind: random.pick(&NO_KINDS), ..Step::clear(card, 0) },
         _ => Step::deliver(card, random.below(r.into()) as u32),
+    };
+    if random.percent(2) {
+        step.amount = random.pick(&[0, 1, MOST_AMOUNT as u32 + 1, u32::MAX]);
     }
+    step
 }

@@ -8,7 +8,7 @@ use std::time::{Duration, Instant};
 
 use yelansub_reference::differential::Tally;
 use yelansub_reference::differential::{alone, calls, logs, messages, network, pending};
-use yelansub_reference::differential::{quiet, runs, total};
+use yelansub_reference::differential::{quiet, runs, total, units};
 
 /// Calls of histories for each list, which take about as long.
 const CALLS_A_LIST: u64 = 10;
@@ -72,6 +72,7 @@ fn every_series(minutes: u64, first: u64) {
         report(total::random_lists(seed, 10_000, 100), |t| total::require_all(t, 10_000));
         report(quiet::random_lists(seed, 10_000, 100), |t| quiet::require_all(t, 10_000));
         report(total::histories(seed, 100_000), total::require_histories);
+        report(units::random_lists(seed, 10_000, 100), units::require_all);
         report(pending::after_runs(seed, 5_000, 100), pending::require_runs);
         report(pending::random_states(seed, 20_000), pending::require_states);
         if Instant::now() > until {
@@ -79,13 +80,19 @@ fn every_series(minutes: u64, first: u64) {
         }
     }
     for (cards, counters, log, depth) in [(2, 1, 400, 6), (2, 2, 300, 4), (3, 1, 300, 5)] {
-        let calls = pending::every_most(cards, counters, log, depth);
+        let calls = pending::every_most(cards, counters, 2, log, depth);
         println!("r {cards}, k {counters}, every list to depth {depth}, every most: {calls}");
     }
-    for (cards, counters, log, depth) in
-        [(2, 1, 400, 8), (2, 2, 300, 6), (3, 1, 300, 6), (4, 1, 200, 5)]
-    {
-        let lists = runs::exhaustive(cards, counters, log, depth);
-        println!("r {cards}, k {counters}, L {log}, every list to depth {depth}: {lists}");
+    for (cards, counters, amounts, log, depth) in [
+        (2, 1, &[1][..], 400, 8),
+        (2, 1, &[1, 2], 400, 7),
+        (2, 2, &[1], 300, 6),
+        (3, 1, &[2], 300, 6),
+        (4, 1, &[1], 200, 5),
+    ] {
+        let lists = runs::exhaustive(cards, counters, amounts, log, depth);
+        println!(
+            "r {cards}, k {counters}, by {amounts:?}, L {log}, every list to depth {depth}: {lists}"
+        );
     }
 }

@@ -124,7 +124,7 @@ impl List {
     }
 
     /// The messages that each card has made, from its log's bytes.
-    fn messages(&self, after: &After) -> Vec<Vec<Message>> {
+    pub(super) fn messages(&self, after: &After) -> Vec<Vec<Message>> {
         let mut made = vec![0; self.cards];
         for (step, [number, _]) in self.steps.iter().zip(&after.answers) {
             if *number == OK && step.kind != STEP_DELIVER {

@@ -4,15 +4,18 @@ use super::{cleared, generate, number, reading, taken, unread, Guarded, Tally};
 use super::{Sending, CLEAR, COUNT, READ_AND_CLEAR, SENDING};
 use crate::library;
 use crate::limits::*;
+use crate::message::{self, Body, PLAIN};
 use crate::random::Random;
-use crate::replica::{self, CARDS_AT, COUNTERS_AT, OWN_AT};
+use crate::replica::{self, increments_at, received_from, CARDS_AT, COUNTERS_AT, OWN_AT};
 
 const CALLS: u64 = 6;
 
 /// Numbers that each call can give.
 pub const OPEN: &[u64] = &[OK, BAD_REPLICA];
 pub const READ: &[u64] = &[OK, BAD_REPLICA, BAD_COUNTER, BAD_ROW];
-pub const SEND: &[u64] = &[OK, BAD_REPLICA, BAD_COUNTER, BAD_ROW, EXHAUSTED, SHORT_OUTPUT];
+pub const COUNTED: &[u64] =
+    &[OK, BAD_REPLICA, BAD_COUNTER, BAD_AMOUNT, BAD_ROW, EXHAUSTED, SHORT_OUTPUT];
+pub const CLEARED: &[u64] = &[OK, BAD_REPLICA, BAD_COUNTER, BAD_ROW, EXHAUSTED, SHORT_OUTPUT];
 pub const TAKE: &[u64] =
     &[OK, BAD_REPLICA, UNREADABLE, BAD_COUNTER, BAD_ROW, BAD_CARD, REPEATED, EARLY, IMPLAUSIBLE];
 
@@ -40,14 +43,33 @@ pub fn random_calls(seed: u64, cases: u64) -> Tally {
     tally
 }
 
-/// Panics unless every call gave all of its numbers, and nothing else.
+/// Panics unless every call gave all of its numbers, and nothing else, and each case at an edge was
+/// met.
 pub fn require_all(tally: &Tally) {
     tally.require("open", OPEN);
     tally.require("read", READ);
     for call in SENDING {
-        tally.require(call.name, SEND);
+        tally.require(call.name, if call.counts() { COUNTED } else { CLEARED });
     }
     tally.require("take", TAKE);
+    tally.require("read, C above N", &[OK]);
+    let (counted, refused): (Vec<u64>, Vec<u64>) =
+        generate::AMOUNTS.into_iter().partition(|amount| is_amount(*amount));
+    tally.require("amount counted", &counted);
+    tally.require("amount refused", &refused);
+    tally.require("count, C + w at MAX", &[OK]);
+    tally.require("count, C + w past MAX", &[EXHAUSTED]);
+    tally.require("count, C at MAX", &[EXHAUSTED]);
+    let (taken, unread): (Vec<u64>, Vec<u64>) =
+        generate::STEP_AMOUNTS.map(u64::from).into_iter().partition(|amount| is_amount(*amount));
+    tally.require("amount read", &taken);
+    tally.require("amount unread", &unread);
+    tally.require("take, version 1", &[UNREADABLE]);
+    tally.require("take, p at w", &[IMPLAUSIBLE]);
+    tally.require("take, p below w", &[IMPLAUSIBLE]);
+    tally.require("take, p at w + 1", &[OK]);
+    tally.require("take, C + w at MAX", &[OK]);
+    tally.require("take, C + w past MAX", &[IMPLAUSIBLE]);
 }
 
 /// One replica twice: the reference's and the library's.
@@ -63,11 +85,11 @@ impl Pair {
         let before = self.ours.clone();
         let (call, number) = match random.below(22) {
             0 => self.open(random),
-            1..=3 => self.read(random),
-            4..=7 => self.send(random, &COUNT),
-            8..=10 => self.send(random, &CLEAR),
-            11..=13 => self.send(random, &READ_AND_CLEAR),
-            _ => self.take(random),
+            1..=3 => self.read(random, tally),
+            4..=7 => self.send(random, &COUNT, tally),
+            8..=10 => self.send(random, &CLEAR, tally),
+            11..=13 => self.send(random, &READ_AND_CLEAR, tally),
+            _ => self.take(random, tally),
         };
         let (seed, case) = (self.seed, self.case);
         assert_eq!(self.ours, self.theirs, "words after {call}, {number}: seed {seed} case {case}");
@@ -97,23 +119,35 @@ impl Pair {
         ("open", theirs)
     }
 
-    fn read(&mut self, random: &mut Random) -> (&'static str, u64) {
+    fn read(&mut self, random: &mut Random, tally: &mut Tally) -> (&'static str, u64) {
         let counter = generate::counter(random, self.ours.get());
         let ours = reading(replica::read(self.ours.get(), counter));
         let theirs = library::read(self.theirs.get(), counter);
         self.agree("read", ours, theirs);
+        let words = self.ours.get();
+        let above = |card: usize| words[increments_at(card)] > received_from(words, card);
+        if ours.number == OK && (0..words[CARDS_AT] as usize).any(above) {
+            tally.note("read, C above N", theirs.number);
+        }
         ("read", theirs.number)
     }
 
-    fn send(&mut self, random: &mut Random, call: &Sending) -> (&'static str, u64) {
-        let counter = generate::counter(random, self.ours.get());
-        let room = self.room(random, counter, call);
+    fn send(
+        &mut self,
+        random: &mut Random,
+        call: &Sending,
+        tally: &mut Tally,
+    ) -> (&'static str, u64) {
+        let before = self.ours.get().to_vec();
+        let counter = generate::counter(random, &before);
+        let amount = generate::count_amount(random, &before);
+        let room = self.room(random, counter, amount, call);
         let content = random.bytes(room);
         let (mut our_out, mut their_out) = (Guarded::new(&content), Guarded::new(&content));
         let in_turn = (call.kind == STEP_READ_AND_CLEAR)
             .then(|| read_then_clear(self.theirs.clone(), counter, their_out.clone()));
-        let ours = cleared((call.ours)(self.ours.get_mut(), counter, our_out.get_mut()));
-        let theirs = (call.theirs)(self.theirs.get_mut(), counter, their_out.get_mut());
+        let ours = cleared((call.ours)(self.ours.get_mut(), counter, amount, our_out.get_mut()));
+        let theirs = (call.theirs)(self.theirs.get_mut(), counter, amount, their_out.get_mut());
         self.agree(call.name, ours, theirs);
         self.agree(call.name, &our_out, &their_out);
         if let Some((answer, words, out)) = in_turn {
@@ -122,22 +156,27 @@ impl Pair {
         }
         let length = theirs.length as usize;
         self.agree("bytes past the message", &content[length..], &their_out.get()[length..]);
+        if call.counts() && room >= INCREMENT_BYTES && replica::read(&before, counter).is_ok() {
+            note_count(tally, &before, amount, theirs.number);
+        }
         (call.name, theirs.number)
     }
 
     /// Output bytes: too few by one, exactly enough, or any number.
-    fn room(&self, random: &mut Random, counter: u64, call: &Sending) -> usize {
+    fn room(&self, random: &mut Random, counter: u64, amount: u64, call: &Sending) -> usize {
         if random.percent(40) {
             let mut words = self.ours.get().to_vec();
-            let needed = (call.ours)(&mut words, counter, &mut [0; LONGEST_MESSAGE]);
+            let needed = (call.ours)(&mut words, counter, amount, &mut [0; LONGEST_MESSAGE]);
             let needed = needed.map_or(0, |cleared| cleared.sent.length as usize);
             return random.pick(&[needed, needed, needed.saturating_sub(1), needed + 1, 0]);
         }
         random.below(LONGEST_MESSAGE as u64 + 60) as usize
     }
 
-    fn take(&mut self, random: &mut Random) -> (&'static str, u64) {
-        let mut bytes = generate::draft(random, self.ours.get()).bytes();
+    fn take(&mut self, random: &mut Random, tally: &mut Tally) -> (&'static str, u64) {
+        let before = self.ours.get().to_vec();
+        let draft = generate::draft(random, &before);
+        let mut bytes = draft.bytes();
         if random.percent(12) {
             generate::damage_bytes(random, &mut bytes);
         }
@@ -145,7 +184,73 @@ impl Pair {
         let ours = taken(replica::take(self.ours.get_mut(), &bytes));
         let theirs = library::take(self.theirs.get_mut(), kept.get());
         self.agree("take", ours, theirs);
+        // Of words that are a replica.
+        if replica::take(&mut before.clone(), &[]) == Err(UNREADABLE) && bytes == draft.bytes() {
+            note_take(tally, &before, &draft, theirs.number);
+        }
         ("take", theirs.number)
+    }
+}
+
+/// A count that nothing but its amount and the card's numbers can have refused.
+fn note_count(tally: &mut Tally, words: &[u64], amount: u64, number: u64) {
+    let own = words[OWN_AT] as usize;
+    let (increments, messages) = (words[increments_at(own)], received_from(words, own));
+    if generate::AMOUNTS.contains(&amount) {
+        match number {
+            OK => tally.note("amount counted", amount),
+            BAD_AMOUNT => tally.note("amount refused", amount),
+            _ => {}
+        }
+    }
+    if messages == MAX || !is_amount(amount) {
+        return;
+    }
+    match increments + amount {
+        MAX => tally.note("count, C + w at MAX", number),
+        next if next == MAX + 1 => tally.note("count, C + w past MAX", number),
+        _ => {}
+    }
+    if increments == MAX {
+        tally.note("count, C at MAX", number);
+    }
+}
+
+/// A message to a replica; if it is an increment that only its fields' range, or only whether it is
+/// plausible, can have refused.
+fn note_take(tally: &mut Tally, words: &[u64], draft: &generate::Draft, number: u64) {
+    let alone = message::read_alone(&draft.bytes());
+    if alone.is_some_and(|message| message.version == PLAIN) {
+        tally.note("take, version 1", number);
+    }
+    let with_amount = generate::Draft { amount: 1, ..draft.clone() };
+    let Some(message) = message::read(&with_amount.bytes()) else { return };
+    let Body::Increment { p, start, .. } = message.body else { return };
+    if generate::STEP_AMOUNTS.contains(&draft.amount) {
+        let name = if number == UNREADABLE { "amount unread" } else { "amount read" };
+        tally.note(name, draft.amount.into());
+    }
+    let (cards, own, sender) = (words[CARDS_AT], words[OWN_AT], u64::from(draft.sender));
+    let reads = replica::read(words, draft.counter.into()).is_ok();
+    let amount = u64::from(draft.amount);
+    if !reads || sender >= cards || sender == own || !is_amount(amount) {
+        return;
+    }
+    let sender = sender as usize;
+    if draft.sequence != received_from(words, sender) + 1 {
+        return;
+    }
+    let next = words[increments_at(sender)] + amount;
+    match p {
+        _ if start => {}
+        _ if p == amount => tally.note("take, p at w", number),
+        _ if p < amount => tally.note("take, p below w", number),
+        _ if next > MAX => tally.note("take, C + w past MAX", number),
+        _ if p == amount + 1 && p <= next => tally.note("take, p at w + 1", number),
+        _ => {}
+    }
+    if next == MAX && (if start { p == MAX } else { amount < p }) {
+        tally.note("take, C + w at MAX", number);
     }
 }
 

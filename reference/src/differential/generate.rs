@@ -2,7 +2,7 @@
 
 use crate::chassis::{self, Buffers, Step};
 use crate::limits::*;
-use crate::message::{Body, Entries, Entry, Message};
+use crate::message::{Body, Entries, Entry, Message, VERSIONS};
 use crate::random::Random;
 use crate::replica::{self, entry_at, increments_at, messages_at, CARDS_AT, COUNTERS_AT, OWN_AT};
 
@@ -10,7 +10,7 @@ const CARDS: u64 = MOST_CARDS as u64;
 const COUNTERS: u64 = MOST_COUNTERS as u64;
 
 /// Words at the edges of every test that the document makes.
-pub const EDGES: [u64; 19] = [
+pub const EDGES: [u64; 22] = [
     0,
     1,
     2,
@@ -20,17 +20,27 @@ pub const EDGES: [u64; 19] = [
     COUNTERS - 1,
     COUNTERS,
     COUNTERS + 1,
+    MOST_AMOUNT,
+    MOST_AMOUNT + 1,
     MAX - 1,
     MAX,
     MAX + 1,
     MAX + 2,
     (1 << 32) - 1,
     1 << 32,
+    (1 << 32) + 1,
     1 << 63,
     u64::MAX - 2,
     u64::MAX - 1,
     u64::MAX,
 ];
+
+/// Amounts at the edges of what a count takes, and those that cut to 32 bits would be others.
+pub const AMOUNTS: [u64; 8] =
+    [0, 1, 2, MOST_AMOUNT, MOST_AMOUNT + 1, 1 << 32, (1 << 32) + 1, u64::MAX];
+
+/// Those of a step.
+pub const STEP_AMOUNTS: [u32; 5] = [0, 1, MOST_AMOUNT as u32, MOST_AMOUNT as u32 + 1, u32::MAX];
 
 /// r and k in range, mostly small.
 pub fn shape(random: &mut Random) -> (usize, usize) {
@@ -57,10 +67,10 @@ pub fn good_step(random: &mut Random, cards: usize, counters: usize) -> Step {
     let card = random.below(cards as u64) as u32;
     let counter = random.below(counters as u64) as u32;
     match random.below(16) {
-        0..=5 => Step::count(card, counter),
+        0..=5 => Step::count_by(card, counter, random.amount()),
         6 => Step::clear(card, counter),
         7 => Step::read_and_clear(card, counter),
-        _ if cards == 1 => Step::count(card, counter),
+        _ if cards == 1 => Step::count_by(card, counter, random.amount()),
         _ => {
             let sender = (card as usize + random.between(1, cards as u64 - 1) as usize) % cards;
             Step::deliver(card, sender as u32)
@@ -89,9 +99,11 @@ fn well_formed(random: &mut Random, cards: usize, counters: usize) -> Vec<u64> {
     let own = random.below(cards as u64) as usize;
     replica::open(&mut words, cards as u64, counters as u64, own as u64).expect("right sizes");
     for card in 0..cards {
-        let messages = if random.percent(10) { MAX } else { count(random, MAX) };
-        words[messages_at(cards, card)] = messages;
-        words[increments_at(card)] = count(random, messages);
+        words[messages_at(cards, card)] = if random.percent(10) { MAX } else { count(random, MAX) };
+        words[increments_at(card)] = match random.below(10) {
+            0..=2 => MAX - random.below(MOST_AMOUNT + 1),
+            _ => count(random, MAX),
+        };
     }
     for place in 0..cards * counters {
         let (counter, card) = (place / cards, place % cards);
@@ -177,11 +189,22 @@ pub fn counter(random: &mut Random, words: &[u64]) -> u64 {
     }
 }
 
-/// A message in range, from no replica.
+/// An amount for a count on this replica, mostly in range.
+pub fn count_amount(random: &mut Random, words: &[u64]) -> u64 {
+    let own = word(words, OWN_AT) as usize % MOST_CARDS;
+    match random.below(8) {
+        0 => random.pick(&AMOUNTS),
+        _ => amount_from(random, word(words, increments_at(own))).into(),
+    }
+}
+
+/// A message in range, of either version, from no replica.
 pub fn message(random: &mut Random) -> Message {
     let from_one = |random: &mut Random, limit: u64| 1 + count(random, limit - 1);
+    let version = random.pick(&VERSIONS);
     let body = if random.percent(50) {
-        Body::Increment { p: from_one(random, MAX), start: random.percent(50) }
+        let amount = if version.has_amount { random.amount() } else { 0 };
+        Body::Increment { p: from_one(random, MAX), start: random.percent(50), amount }
     } else {
         let mut entries = Entries::new();
         let density = random.pick(&[0, 20, 55, 100]);
@@ -194,6 +217,7 @@ pub fn message(random: &mut Random) -> Message {
         Body::Clear(entries)
     };
     Message {
+        version,
         sender: random.below(CARDS) as u32,
         sequence: from_one(random, MAX),
         counter: random.below(COUNTERS) as u32,
@@ -201,7 +225,7 @@ pub fn message(random: &mut Random) -> Message {
     }
 }
 
-/// The bytes of a message with these fields, in range or not.
+/// The bytes of a message with these fields, in range or not. In version 1 there is no amount.
 #[derive(Clone, Debug)]
 pub struct Draft {
     pub version: u32,
@@ -211,6 +235,7 @@ pub struct Draft {
     pub counter: u32,
     pub p: u64,
     pub start: u32,
+    pub amount: u32,
     pub entries: Vec<(u32, u64, u64)>,
 }
 
@@ -225,6 +250,9 @@ impl Draft {
         if self.kind == MESSAGE_INCREMENT {
             bytes.extend(self.p.to_be_bytes());
             bytes.extend(self.start.to_be_bytes());
+            if self.version != MESSAGE_VERSION_1 {
+                bytes.extend(self.amount.to_be_bytes());
+            }
         } else {
             bytes.extend((self.entries.len() as u32).to_be_bytes());
             for (card, p, c) in &self.entries {
@@ -258,26 +286,38 @@ pub fn draft(random: &mut Random, words: &[u64]) -> Draft {
     let counter = counter(random, words) as u32;
     let [senders_p, ..] = entry(words, cards, counter as usize % MOST_COUNTERS, sender);
     let mut draft = Draft {
-        version: if random.percent(1) { MESSAGE_VERSION + 1 } else { MESSAGE_VERSION },
+        version: match random.below(50) {
+            0 => MESSAGE_VERSION_1,
+            1 => MESSAGE_VERSION + 1,
+            _ => MESSAGE_VERSION,
+        },
         kind: random.pick(&[MESSAGE_INCREMENT, MESSAGE_CLEAR]),
         sender: sender as u32,
         sequence,
         counter,
         p: 1,
         start: 0,
+        amount: amount_from(random, increments),
         entries: Vec::new(),
     };
     if draft.kind == MESSAGE_INCREMENT {
         draft.start = random.below(2) as u32;
-        let next = increments.wrapping_add(1);
+        let amount = u64::from(draft.amount);
+        let next = increments.wrapping_add(amount);
         draft.p = match random.below(12) {
             0 => next.wrapping_add(1),
             1 => random.pick(&EDGES),
-            2 => 1,
+            2 => amount.saturating_sub(random.below(2)),
             _ if draft.start == 1 => next,
-            3..=7 => senders_p.wrapping_add(1),
-            _ => random.between(2.min(next), next),
+            3..=7 => senders_p.wrapping_add(amount),
+            _ => {
+                let last = next.min(MAX);
+                random.between((amount + 1).min(last), last)
+            }
         };
+        if random.percent(4) {
+            draft.amount = random.pick(&STEP_AMOUNTS);
+        }
     } else {
         let density = random.pick(&[0, 20, 55, 55, 100]);
         for card in 0..cards {
@@ -289,6 +329,16 @@ pub fn draft(random: &mut Random, words: &[u64]) -> Draft {
         damage_entries(random, &mut draft.entries);
     }
     draft
+}
+
+/// An amount in range that a card with this C might count by: at times what there is room for below
+/// MAX, or one more.
+fn amount_from(random: &mut Random, increments: u64) -> u32 {
+    let edge = MAX.saturating_sub(increments) + random.below(2);
+    if is_amount(edge) && random.percent(40) {
+        return edge as u32;
+    }
+    random.amount()
 }
 
 fn clear_entry(

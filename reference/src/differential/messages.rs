@@ -3,7 +3,7 @@
 use super::{generate, Guarded, Place, Tally};
 use crate::library::{self, MessageReading, Written};
 use crate::limits::*;
-use crate::message::{self, Body, Entries, Entry, Message};
+use crate::message::{self, Body, Entries, Entry, Message, VERSIONS};
 use crate::random::Random;
 
 /// Numbers that each call can give.
@@ -14,7 +14,7 @@ pub const FIELD: &[u64] = &[OK, UNREADABLE];
 
 type Set<T> = (&'static str, fn(&mut T, u64));
 
-pub const FIELDS: [Set<library::Message>; 8] = [
+pub const FIELDS: [Set<library::Message>; 9] = [
     ("version", |form, number| form.version = number as u32),
     ("kind", |form, number| form.kind = number as u32),
     ("sender", |form, number| form.sender = number as u32),
@@ -22,6 +22,7 @@ pub const FIELDS: [Set<library::Message>; 8] = [
     ("counter", |form, number| form.counter = number as u32),
     ("p", |form, number| form.p = number),
     ("start", |form, number| form.start = number as u32),
+    ("amount", |form, number| form.amount = number as u32),
     ("len", |form, number| form.len = number as usize),
 ];
 
@@ -31,21 +32,22 @@ pub const ENTRY_FIELDS: [Set<Entry>; 3] = [
     ("entry c", |entry, number| entry.c = number),
 ];
 
-/// The header's struct for a message: what its kind does not use is 0.
+/// The header's struct for a message: what its version and its kind do not use is 0.
 pub fn form_of(message: &Message) -> library::Message {
-    let Message { sender, sequence, counter, body } = *message;
+    let Message { version, sender, sequence, counter, body } = *message;
     let mut form = library::Message {
-        version: MESSAGE_VERSION,
+        version: version.number,
         sender,
         sequence,
         counter,
         ..Default::default()
     };
     match body {
-        Body::Increment { p, start } => {
+        Body::Increment { p, start, amount } => {
             form.kind = MESSAGE_INCREMENT;
             form.p = p;
             form.start = u32::from(start);
+            form.amount = amount;
         }
         Body::Clear(entries) => {
             let list = entries.as_slice();
@@ -59,9 +61,10 @@ pub fn form_of(message: &Message) -> library::Message {
 
 /// The message that a struct is the one form of, its numbers in range or not.
 fn message_of(form: &library::Message) -> Option<Message> {
+    let version = VERSIONS.into_iter().find(|version| version.number == form.version)?;
     let body = match form.kind {
         MESSAGE_INCREMENT if form.start <= 1 => {
-            Body::Increment { p: form.p, start: form.start == 1 }
+            Body::Increment { p: form.p, start: form.start == 1, amount: form.amount }
         }
         MESSAGE_CLEAR if form.len <= MOST_CARDS => {
             let mut entries = Entries::new();
@@ -71,7 +74,7 @@ fn message_of(form: &library::Message) -> Option<Message> {
         _ => return None,
     };
     let library::Message { sender, sequence, counter, .. } = *form;
-    let message = Message { sender, sequence, counter, body };
+    let message = Message { version, sender, sequence, counter, body };
     (form_of(&message) == *form).then_some(message)
 }
 
@@ -103,13 +106,20 @@ pub fn random_messages(seed: u64, cases: u64) -> Tally {
         let place = || format!("seed {seed} case {case}");
         let bytes = bytes(&mut random);
         tally.note("read_message", compare_read(&bytes, &place));
+        if let Some(read) = message::read_alone(&bytes) {
+            tally.note("version read", read.version.number.into());
+        }
         let message = generate::message(&mut random);
         let mut form = form_of(&message);
         for _ in 0..random.pick(&[0, 0, 1, 1, 2, 3]) {
             damage_form(&mut random, &mut form);
         }
         let content = room(&mut random, message.length());
-        tally.note("write_message", compare_write(form, &content, &place));
+        let number = compare_write(form, &content, &place);
+        tally.note("write_message", number);
+        if number == OK {
+            tally.note("version written", form.version.into());
+        }
     }
     tally
 }
@@ -118,14 +128,21 @@ pub fn random_messages(seed: u64, cases: u64) -> Tally {
 pub fn require_all(tally: &Tally) {
     tally.require("read_message", READ);
     tally.require("write_message", WRITE);
+    for name in ["version read", "version written"] {
+        tally.require(name, &VERSIONS.map(|version| version.number.into()));
+    }
 }
 
-/// An increment and every length of clear, each of its fields at every edge; gives what each field
-/// was answered when written, and when read.
+/// Of both versions an increment and every length of clear, each of its fields at every edge; gives
+/// what each field was answered when written, and when read.
 pub fn every_field_at_every_edge() -> [Tally; 2] {
     let [mut written, mut read] = [Tally::default(), Tally::default()];
-    let mut compare = |name, form, place: Place| {
-        written.note(name, compare_write(form, &[0xee; LONGEST_MESSAGE], place));
+    let mut compare = |name, form: library::Message, place: Place| {
+        let number = compare_write(form, &[0xee; LONGEST_MESSAGE], place);
+        written.note(name, number);
+        if let (true, Some(unused)) = (name == "amount", unused_amount(&form)) {
+            written.note(unused, number);
+        }
         read.note(name, compare_read(&bytes_of(&form), place));
     };
     for base in bases() {
@@ -147,6 +164,17 @@ pub fn every_field_at_every_edge() -> [Tally; 2] {
     [written, read]
 }
 
+/// Where a struct has an amount that is no part of its message: in range only if it is 0.
+pub const UNUSED_AMOUNTS: [&str; 2] = ["amount in version 1", "amount in a clear"];
+
+fn unused_amount(form: &library::Message) -> Option<&'static str> {
+    match form.kind {
+        MESSAGE_CLEAR => Some(UNUSED_AMOUNTS[1]),
+        _ if form.version == MESSAGE_VERSION_1 => Some(UNUSED_AMOUNTS[0]),
+        _ => None,
+    }
+}
+
 /// The bytes of a struct's fields, in range or not, with at most one entry too many.
 fn bytes_of(form: &library::Message) -> Vec<u8> {
     let entries = form.entries.iter().cycle().take(form.len.min(MOST_CARDS + 1));
@@ -158,21 +186,27 @@ fn bytes_of(form: &library::Message) -> Vec<u8> {
         counter: form.counter,
         p: form.p,
         start: form.start,
+        amount: form.amount,
         entries: entries.map(|entry| (entry.card, entry.p, entry.c)).collect(),
     };
     draft.bytes()
 }
 
 fn bases() -> Vec<library::Message> {
-    let header = library::Message { version: MESSAGE_VERSION, sequence: 9, ..Default::default() };
-    let mut list = vec![library::Message { kind: MESSAGE_INCREMENT, p: 7, ..header }];
-    for len in 0..=MOST_CARDS {
-        let mut clear = library::Message { kind: MESSAGE_CLEAR, len, ..header };
-        for (card, entry) in clear.entries[..len].iter_mut().enumerate() {
-            // p takes numbers on both sides of c.
-            *entry = Entry { card: card as u32, p: 2, c: MOST_CARDS as u64 + 1 };
+    let mut list = Vec::new();
+    for version in VERSIONS {
+        let header =
+            library::Message { version: version.number, sequence: 9, ..Default::default() };
+        let amount = if version.has_amount { 5 } else { 0 };
+        list.push(library::Message { kind: MESSAGE_INCREMENT, p: 7, amount, ..header });
+        for len in 0..=MOST_CARDS {
+            let mut clear = library::Message { kind: MESSAGE_CLEAR, len, ..header };
+            for (card, entry) in clear.entries[..len].iter_mut().enumerate() {
+                // p takes numbers on both sides of c.
+                *entry = Entry { card: card as u32, p: 2, c: MOST_CARDS as u64 + 1 };
+            }
+            list.push(clear);
         }
-        list.push(clear);
     }
     list
 }
@@ -180,7 +214,7 @@ fn bases() -> Vec<library::Message> {
 fn compare_read(bytes: &[u8], place: Place) -> u64 {
     let lent = Guarded::new(bytes);
     let theirs = library::read_message(lent.get());
-    assert_eq!(reading(message::read(bytes)), theirs, "{bytes:?}: {}", place());
+    assert_eq!(reading(message::read_alone(bytes)), theirs, "{bytes:?}: {}", place());
     assert_eq!(lent, Guarded::new(bytes), "reading wrote: {}", place());
     if theirs.number == OK {
         let mut out = [0; LONGEST_MESSAGE];

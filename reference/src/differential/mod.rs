@@ -11,6 +11,7 @@ pub mod pending;
 pub mod quiet;
 pub mod runs;
 pub mod total;
+pub mod units;
 
 use std::collections::BTreeMap;
 use std::fmt;
@@ -128,10 +129,11 @@ pub fn reading(answer: Result<replica::Reading, u64>) -> library::Reading {
     }
 }
 
-/// A call on words, a counter and an output.
-type Send<Answer> = fn(&mut [u64], u64, &mut [u8]) -> Answer;
+/// A call on words, a counter, an amount and an output.
+type Send<Answer> = fn(&mut [u64], u64, u64, &mut [u8]) -> Answer;
 
-/// A call that makes a message, on both sides and as a step. One that reads no value gives 0.
+/// A call that makes a message, on both sides and as a step. One that reads no value gives 0, and
+/// one that does not count looks at no amount.
 pub struct Sending {
     pub name: &'static str,
     pub kind: u32,
@@ -142,26 +144,35 @@ pub struct Sending {
 pub const COUNT: Sending = Sending {
     name: "count",
     kind: STEP_COUNT,
-    ours: |words, counter, out| replica::count(words, counter, out).map(replica::Cleared::unread),
-    theirs: |words, counter, out| unread(library::count(words, counter, out)),
+    ours: |words, counter, amount, out| {
+        replica::count(words, counter, amount, out).map(replica::Cleared::unread)
+    },
+    theirs: |words, counter, amount, out| unread(library::count(words, counter, amount, out)),
 };
 pub const CLEAR: Sending = Sending {
     name: "clear",
     kind: STEP_CLEAR,
-    ours: |words, counter, out| replica::clear(words, counter, out).map(replica::Cleared::unread),
-    theirs: |words, counter, out| unread(library::clear(words, counter, out)),
+    ours: |words, counter, _, out| {
+        replica::clear(words, counter, out).map(replica::Cleared::unread)
+    },
+    theirs: |words, counter, _, out| unread(library::clear(words, counter, out)),
 };
 pub const READ_AND_CLEAR: Sending = Sending {
     name: "read and clear",
     kind: STEP_READ_AND_CLEAR,
-    ours: replica::read_and_clear,
-    theirs: library::read_and_clear,
+    ours: |words, counter, _, out| replica::read_and_clear(words, counter, out),
+    theirs: |words, counter, _, out| library::read_and_clear(words, counter, out),
 };
 pub const SENDING: [Sending; 3] = [COUNT, CLEAR, READ_AND_CLEAR];
 
 impl Sending {
-    pub fn step(&self, card: u32, counter: u32) -> Step {
-        Step { kind: self.kind, first: card, second: counter }
+    pub fn counts(&self) -> bool {
+        self.kind == STEP_COUNT
+    }
+
+    pub fn step(&self, card: u32, counter: u32, amount: u32) -> Step {
+        let amount = if self.counts() { amount } else { 0 };
+        Step { kind: self.kind, first: card, second: counter, amount }
     }
 }
 

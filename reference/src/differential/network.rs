@@ -50,10 +50,13 @@ pub(super) fn histories_with(
 
 /// Panics unless the series met everything that can happen, and nothing else.
 pub fn require_all(tally: &Tally) {
-    for call in SENDING {
-        // EXHAUSTED needs MAX messages of one card first.
+    // EXHAUSTED needs MAX messages, or units, of one card first.
+    tally.require(COUNT.name, &[OK, BAD_COUNTER, SHORT_OUTPUT, BAD_AMOUNT]);
+    for call in [CLEAR, READ_AND_CLEAR] {
         tally.require(call.name, &[OK, BAD_COUNTER, SHORT_OUTPUT]);
     }
+    // 3 is any from there on.
+    tally.require("amount", &[1, 2, 3]);
     tally.require("value", &[0, 1]);
     tally.require("next", &[OK]);
     tally.require("old", &[REPEATED]);
@@ -64,6 +67,7 @@ pub fn require_all(tally: &Tally) {
     tally.require("damaged", &damaged);
     tally.require("noise", &[UNREADABLE]);
     tally.require("foreign", &[BAD_COUNTER, UNREADABLE, BAD_CARD]);
+    tally.require("version 1", &[UNREADABLE]);
     tally.require("forged", &[OK]);
     tally.require("again", &[REPEATED]);
     tally.require("resent", &[OK, REPEATED]);
@@ -119,7 +123,7 @@ impl Cards {
             return [library::take(words, bytes).number, 0];
         };
         let mut out = [0; LONGEST_MESSAGE];
-        let answer = (call.theirs)(words, u64::from(step.second), &mut out);
+        let answer = (call.theirs)(words, step.second.into(), step.amount.into(), &mut out);
         self.written[card].push(out[..answer.length as usize].to_vec());
         [answer.number, answer.value]
     }
@@ -259,21 +263,31 @@ impl History<'_> {
         counter: u64,
     ) {
         let size = self.size(call, card, counter);
-        let step = call.step(card as u32, counter as u32);
+        let amount = generate::count_amount(random, &self.ours[card]);
+        let step = call.step(card as u32, counter as u32, amount as u32);
         let forbidden = self.collector.is_some_and(|collector| collector.forbids(step));
         let room = if forbidden { random.below(size as u64) as usize } else { room(random, size) };
-        self.send_from(call, card, counter, &random.bytes(room));
+        self.send_from(call, card, counter, amount, &random.bytes(room));
     }
 
     /// With an output that holds `content`.
-    fn send_from(&mut self, call: &Sending, card: usize, counter: u64, content: &[u8]) {
+    fn send_from(
+        &mut self,
+        call: &Sending,
+        card: usize,
+        counter: u64,
+        amount: u64,
+        content: &[u8],
+    ) {
         let size = self.size(call, card, counter);
         let before = self.theirs.words[card].clone();
         let (mut out, mut our_out) = (Guarded::new(content), content.to_vec());
-        let theirs = (call.theirs)(self.theirs.words[card].get_mut(), counter, out.get_mut());
-        let ours = (call.ours)(&mut self.ours[card], counter, &mut our_out);
+        let words = self.theirs.words[card].get_mut();
+        let theirs = (call.theirs)(words, counter, amount, out.get_mut());
+        let ours = (call.ours)(&mut self.ours[card], counter, amount, &mut our_out);
         let due = match self.ledgers.get(counter as usize) {
             None => [BAD_COUNTER, 0],
+            Some(_) if call.counts() && !is_amount(amount) => [BAD_AMOUNT, 0],
             Some(_) if content.len() < size => [SHORT_OUTPUT, 0],
             Some(ledger) if call.kind == STEP_READ_AND_CLEAR => [OK, ledger.value(card)],
             Some(_) => [OK, 0],
@@ -286,7 +300,7 @@ impl History<'_> {
         self.agree("bytes past the message", &out.get()[length..], &content[length..]);
         if theirs.number == OK {
             self.agree(call.name, length, size);
-            let step = call.step(card as u32, counter as u32);
+            let step = call.step(card as u32, counter as u32, amount as u32);
             self.wrote(step, &out.get()[..length]);
             self.accept(Accepted { step, counter: step.second, value: theirs.value });
         }
@@ -295,14 +309,15 @@ impl History<'_> {
     /// A clear has an entry for each holding card of the ledger.
     fn size(&self, call: &Sending, card: usize, counter: u64) -> usize {
         match self.ledgers.get(counter as usize) {
-            Some(ledger) if call.kind != STEP_COUNT => {
+            Some(ledger) if !call.counts() => {
                 clear_bytes(ledger.holders(card).count_ones() as usize)
             }
             _ => INCREMENT_BYTES,
         }
     }
 
-    /// The card has written a message: it reads, names the card, and has the next number.
+    /// The card has written a message: it reads, names the card, has the next number and, if it
+    /// counts, the amount.
     fn wrote(&mut self, step: Step, bytes: &[u8]) {
         let message = message::read(bytes).expect("a written message reads");
         let written = &self.theirs.written[step.first as usize];
@@ -310,11 +325,18 @@ impl History<'_> {
         let due = (step.first, written.len() as u64 + 1, step.second);
         self.agree("header", header, due);
         match message.body {
-            Body::Increment { start: false, .. } => self.tally.note("start", NO_START),
-            Body::Increment { .. } if self.accepted.iter().any(|call| call.step == step) => {
-                self.tally.note("start", NEW_START)
+            Body::Increment { start, amount, .. } => {
+                self.agree("amount", amount, step.amount);
+                let same = |call: &Accepted| Step { amount, ..call.step } == step;
+                let before = self.accepted.iter().any(same);
+                self.tally.note("amount", amount.min(3).into());
+                let start = match (start, before) {
+                    (false, _) => NO_START,
+                    (true, false) => FIRST_START,
+                    (true, true) => NEW_START,
+                };
+                self.tally.note("start", start);
             }
-            Body::Increment { .. } => self.tally.note("start", FIRST_START),
             Body::Clear(entries) => self.tally.note("entries", entries.as_slice().len() as u64),
         }
         self.theirs.written[step.first as usize].push(bytes.to_vec());
@@ -442,8 +464,9 @@ impl History<'_> {
                     self.take_written(card, card, random.between(0, last as u64), "own");
                 }
             }
-            5..=7 => self.hand_over_damaged(random),
-            8 => self.hand_over_stray(random),
+            5 | 6 => self.hand_over_damaged(random),
+            7 => self.hand_over_stray(random),
+            8 => self.hand_over_plain(random),
             _ if self.known.is_empty() => {}
             _ => {
                 let at = random.below(self.known.len() as u64) as usize;
@@ -479,6 +502,15 @@ impl History<'_> {
         }
     }
 
+    /// The next message, but in version 1.
+    fn hand_over_plain(&mut self, random: &mut Random) {
+        let Some((card, sender, at)) = self.some(random, NEXT) else { return };
+        let message = message::read(&self.theirs.written[sender][at as usize]).expect("written");
+        let mut out = [0; LONGEST_MESSAGE];
+        let length = message::write(&message.plain(), &mut out).expect("in range");
+        self.take(card, &out[..length], "version 1");
+    }
+
     /// Next in sequence, but for a sender, a counter or an entry's card that is not there.
     fn foreign(&self, random: &mut Random, card: usize) -> generate::Draft {
         let (cards, counters) = (self.cards as u64, self.counters as u64);
@@ -492,6 +524,7 @@ impl History<'_> {
             counter: random.below(counters) as u32,
             p: 1,
             start: 1,
+            amount: 1,
             entries: Vec::new(),
         };
         match random.below(3) {
@@ -598,18 +631,18 @@ impl History<'_> {
         let counting = random.pick(&[0, 50, 100, 100]);
         for card in 0..self.cards {
             if random.percent(counting) {
-                self.send_heard(&COUNT, card, counter);
+                self.send_heard(&COUNT, card, counter, random.amount());
             }
         }
-        self.send_heard(clear, clearing, counter);
+        self.send_heard(clear, clearing, counter, 0);
         for words in &self.theirs.words {
             let read = library::read(words.get(), counter);
             self.agree("a read after all was cleared", read, library::Reading::default());
         }
     }
 
-    fn send_heard(&mut self, call: &Sending, card: usize, counter: u64) {
-        self.send_from(call, card, counter, &[0; LONGEST_MESSAGE]);
+    fn send_heard(&mut self, call: &Sending, card: usize, counter: u64, amount: u32) {
+        self.send_from(call, card, counter, amount.into(), &[0; LONGEST_MESSAGE]);
         let last = self.theirs.written[card].len() as u64 - 1;
         for other in (0..self.cards).filter(|other| *other != card) {
             self.take_written(other, card, last, "next");

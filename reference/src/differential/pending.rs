@@ -3,12 +3,12 @@
 //! alone is told from N in the words and from its take, in deliveries made one by one.
 
 use super::alone::{series, After, List};
-use super::{against_ledgers, delivered, generate, runs, Guarded, Place, Tally};
+use super::{against_ledgers, delivered, generate, logs, runs, Guarded, Place, Tally};
 use crate::chassis::{self, Step};
 use crate::ledger::Ledger;
 use crate::library::{self, Delivered, Reading};
 use crate::limits::*;
-use crate::message::{self, Body, Entries, Entry, Message};
+use crate::message::{self, Body, Entries, Entry, Message, CURRENT};
 use crate::random::Random;
 use crate::replica::{self, entry_at, increments_at, messages_at, received_from};
 
@@ -116,6 +116,14 @@ impl Lent {
         made - received_from(self.replica(receiver), sender)
     }
 
+    /// Whether some card's messages begin well and go on with one of version 1.
+    fn has_plain_message(&self) -> bool {
+        (0..self.cards as usize).any(|card| {
+            let made = received_from(self.replica(card), card);
+            logs::plain_place(self.log(card)).is_some_and(|place| place <= made)
+        })
+    }
+
     fn total(&self) -> u64 {
         self.links().map(|(receiver, sender)| self.waiting(receiver, sender)).sum()
     }
@@ -188,6 +196,9 @@ fn compare(lent: &Lent, most: u64, place: Place, tally: &mut Tally) -> (Delivere
         assert_eq!(theirs.words, lent.words, "refused, most {most}: {}", place());
     }
     tally.note("call", answer.number);
+    if [OK, BAD_LOG].contains(&answer.number) && lent.has_plain_message() {
+        tally.note("version 1", answer.number);
+    }
     (answer, theirs)
 }
 
@@ -338,23 +349,29 @@ pub fn require_runs(tally: &Tally) {
     tally.require("agree", &[0, 1]);
 }
 
-/// Every list of in-range steps up to `depth`, and every `most` from 0 to one above what waits;
-/// gives how many calls were made.
-pub fn every_most(cards: usize, counters: usize, log_bytes: usize, depth: usize) -> u64 {
+/// Every list of in-range steps up to `depth`, counts by `amount`, and every `most` from 0 to one
+/// above what waits; gives how many calls were made.
+pub fn every_most(
+    cards: usize,
+    counters: usize,
+    amount: u32,
+    log_bytes: usize,
+    depth: usize,
+) -> u64 {
     let mut list = List { cards, counters, log_bytes, steps: Vec::new() };
     let mut tally = Tally::default();
-    visit(&mut list, depth, &mut tally);
+    visit(&mut list, &runs::alphabet(cards, counters, &[amount]), depth, &mut tally);
     tally.times("call", OK)
 }
 
-fn visit(list: &mut List, depth: usize, tally: &mut Tally) {
+fn visit(list: &mut List, alphabet: &[Step], depth: usize, tally: &mut Tally) {
     with_every_most(list, tally);
     if depth == 0 {
         return;
     }
-    for step in runs::alphabet(list.cards, list.counters) {
-        list.steps.push(step);
-        visit(list, depth - 1, tally);
+    for step in alphabet {
+        list.steps.push(*step);
+        visit(list, alphabet, depth - 1, tally);
         list.steps.pop();
     }
 }
@@ -417,6 +434,7 @@ pub fn require_states(tally: &Tally) {
     tally.require("most", MOST);
     tally.require("declined", DECLINED);
     tally.require("passed over", &[0, 1]);
+    tally.require("version 1", &[BAD_LOG]);
 }
 
 /// r and k, seldom large.
@@ -481,12 +499,16 @@ fn any_replica(random: &mut Random, own: usize, counters: usize, made: &[u64]) -
     for (card, made) in made.iter().enumerate() {
         let messages = if card == own { *made } else { random.between(0, *made) };
         words[messages_at(cards, card)] = messages;
-        words[increments_at(card)] = random.between(0, messages);
+        words[increments_at(card)] = match random.below(12) {
+            0 => MAX - random.below(4),
+            _ => random.between(0, messages + 4),
+        };
     }
     for place in 0..cards * counters {
         let (counter, card) = (place / cards, place % cards);
         // The own entry does not pass the own C; others may.
         let limit = words[increments_at(card)] + if card == own { 0 } else { 3 };
+        let limit = limit.min(MAX);
         if limit > 0 && random.percent(50) {
             let c = random.between(1, limit);
             let p = random.between(1, c);
@@ -509,10 +531,11 @@ fn any_message(
         0 => random.below(MOST_COUNTERS as u64),
         _ => random.below(counters as u64),
     };
-    let p = random.between(1, sequence);
+    let p = random.between(1, sequence + 4);
+    let amount = random.pick(&[1, 1, 2, 3]);
     let body = match random.below(4) {
-        0 => Body::Increment { p, start: true },
-        1 => Body::Increment { p, start: false },
+        0 => Body::Increment { p, start: true, amount },
+        1 => Body::Increment { p, start: false, amount },
         _ => {
             let mut entries = Entries::new();
             let stranger = random.percent(10);
@@ -526,7 +549,7 @@ fn any_message(
             Body::Clear(entries)
         }
     };
-    Message { sender: sender as u32, sequence, counter: counter as u32, body }
+    Message { version: CURRENT, sender: sender as u32, sequence, counter: counter as u32, body }
 }
 
 fn bytes_of(messages: &[Message]) -> Vec<u8> {
@@ -612,11 +635,12 @@ fn damage(random: &mut Random, lent: &mut Lent) {
             }
             let any = |random: &mut Random| random.below(messages.len() as u64) as usize;
             let (at, to) = (any(random), any(random));
-            match random.below(8) {
+            match random.below(9) {
                 0 => messages.swap(at, to),
                 1 => messages[at].sender = random.below(MOST_CARDS as u64) as u32,
                 2 => messages[at].sequence = 1 + random.below(MAX),
                 3 => messages[at].sequence = 1 + random.below(8),
+                4 => messages[at] = messages[at].plain(),
                 _ => {
                     let sequence = messages[at].sequence;
                     messages[at] = any_message(random, cards, counters, card, sequence);

@@ -12,7 +12,17 @@ use crate::replica::{self, received_from};
 
 pub const RUN: &[u64] = &[OK, BAD_SIZES];
 /// `EXHAUSTED` needs `MAX` messages of one card first.
-pub const STEP: &[u64] = &[OK, BAD_COUNTER, BAD_CARD, BAD_KIND, NOTHING_WAITING, LOG_FULL];
+pub const STEP: &[u64] =
+    &[OK, BAD_COUNTER, BAD_CARD, BAD_KIND, NOTHING_WAITING, LOG_FULL, BAD_AMOUNT];
+
+/// Of each kind of step, how its amounts are tallied where it was accepted, and where they were
+/// refused.
+const AMOUNTS_OF: [(u32, &str, &str); 4] = [
+    (STEP_COUNT, "count by", "count not by"),
+    (STEP_CLEAR, "clear with", "clear not with"),
+    (STEP_DELIVER, "deliver with", "deliver not with"),
+    (STEP_READ_AND_CLEAR, "read and clear with", "read and clear not with"),
+];
 
 /// A run of either side, steps given as bytes.
 type Run = fn(u64, u64, u64, &[u8], Buffers) -> u64;
@@ -91,6 +101,28 @@ pub fn require_all(tally: &Tally) {
     tally.require("records", RUN);
     tally.require("step", STEP);
     tally.require("value", &[0, 1]);
+    let amounts = generate::STEP_AMOUNTS;
+    for (kind, accepted, refused) in AMOUNTS_OF {
+        let fits = |amount: &u32| Step { kind, amount: *amount, ..Step::clear(0, 0) }.amount_fits();
+        let (right, wrong): (Vec<u32>, Vec<u32>) = amounts.iter().partition(|amount| fits(amount));
+        for (name, amounts) in [(accepted, right), (refused, wrong)] {
+            tally.require(name, &amounts.into_iter().map(u64::from).collect::<Vec<_>>());
+        }
+    }
+    tally.require("no kind with", &amounts.map(u64::from));
+}
+
+/// The amounts at the edges, by what they were answered.
+fn note_amount(tally: &mut Tally, step: Step, number: u64) {
+    let of_kind = AMOUNTS_OF.into_iter().find(|(kind, ..)| *kind == step.kind);
+    let name = match (number, of_kind) {
+        _ if !generate::STEP_AMOUNTS.contains(&step.amount) => return,
+        (OK, Some((_, accepted, _))) => accepted,
+        (BAD_AMOUNT, Some((.., refused))) => refused,
+        (BAD_KIND, None) => "no kind with",
+        _ => return,
+    };
+    tally.note(name, step.amount.into());
 }
 
 fn compare(lent: &Lent, place: Place, tally: &mut Tally) {
@@ -117,6 +149,7 @@ fn compare(lent: &Lent, place: Place, tally: &mut Tally) {
         let answer = answers(theirs.answers.get())[at];
         let [number, value] = answer;
         tally.note("step", number);
+        note_amount(tally, step, number);
         if step.kind == STEP_READ_AND_CLEAR && number == OK {
             let due = lent.value_after(at, step.first, step.second);
             assert_eq!(value, due, "{step:?}, number {at}: {}", place());
@@ -137,8 +170,8 @@ fn feed(ledgers: &mut [Ledger], step: Step, answer: Answer, cards: usize, place:
     let [number, value] = answer;
     let (first, second) = (step.first as usize, step.second as usize);
     if step.kind == STEP_DELIVER && first < cards && second < cards && first != second {
-        let waits = ledgers[0].waits(first, second);
-        assert_eq!(number == OK, waits, "{step:?} answered {number}: {}", place());
+        let due = step.amount == 0 && ledgers[0].waits(first, second);
+        assert_eq!(number == OK, due, "{step:?} answered {number}: {}", place());
     }
     let due = match step.kind {
         STEP_READ_AND_CLEAR if number == OK => ledgers[second].value(first),
@@ -237,6 +270,12 @@ fn step(random: &mut Random, cards: usize, counters: usize) -> Step {
             _ => step.second = step.first,
         }
     }
+    if random.percent(6) {
+        step.amount = match random.below(4) {
+            0 => random.word() as u32,
+            _ => random.pick(&generate::STEP_AMOUNTS),
+        };
+    }
     step
 }
 
@@ -262,13 +301,14 @@ fn foreign_log(random: &mut Random, card: usize, counters: usize, log_bytes: usi
             break;
         }
         let draft = generate::Draft {
-            version: MESSAGE_VERSION,
+            version: if random.percent(90) { MESSAGE_VERSION } else { MESSAGE_VERSION_1 },
             kind: if random.percent(90) { MESSAGE_INCREMENT } else { MESSAGE_CLEAR },
             sender: card as u32,
             sequence,
             counter: random.below(counters as u64) as u32,
             p: sequence,
             start: 1,
+            amount: 1,
             entries: Vec::new(),
         };
         log.extend(draft.bytes());
@@ -326,13 +366,20 @@ fn wrong_sizes(random: &mut Random, lent: &mut Lent) {
     }
 }
 
-/// Every list of in-range steps up to `depth`; gives how many lists were run.
-pub fn exhaustive(cards: usize, counters: usize, log_bytes: usize, depth: usize) -> u64 {
+/// Every list of in-range steps up to `depth`, counts by these amounts; gives how many lists were
+/// run.
+pub fn exhaustive(
+    cards: usize,
+    counters: usize,
+    amounts: &[u32],
+    log_bytes: usize,
+    depth: usize,
+) -> u64 {
     let mut search = Search {
         cards,
         counters,
         log_bytes,
-        alphabet: alphabet(cards, counters),
+        alphabet: alphabet(cards, counters, amounts),
         steps: Vec::new(),
         lists: 0,
         foreign: foreign_logs(cards, counters, log_bytes),
@@ -342,11 +389,11 @@ pub fn exhaustive(cards: usize, counters: usize, log_bytes: usize, depth: usize)
     search.lists
 }
 
-pub fn alphabet(cards: usize, counters: usize) -> Vec<Step> {
+pub fn alphabet(cards: usize, counters: usize, amounts: &[u32]) -> Vec<Step> {
     let mut steps = Vec::new();
     for card in 0..cards as u32 {
         for counter in 0..counters as u32 {
-            steps.push(Step::count(card, counter));
+            steps.extend(amounts.iter().map(|amount| Step::count_by(card, counter, *amount)));
             steps.push(Step::clear(card, counter));
             steps.push(Step::read_and_clear(card, counter));
         }

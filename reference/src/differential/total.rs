@@ -1,6 +1,6 @@
 //! The total. Where one card alone clears a counter, always by read-and-clear, the values that it
 //! has answered and the value of a read there now are together the increments of that counter that
-//! the card has received, its own included.
+//! the card has received, its own included, an increment by w counting as w.
 //!
 //! Answers, words and reads are the library's. What the card has received is counted here from the
 //! accepted steps alone: neither the reference nor the ledger is asked.
@@ -17,7 +17,7 @@ use crate::random::Random;
 /// What a total is worth as a test.
 const NOTHING: u64 = 0;
 const SOME: u64 = 1;
-/// Several answers are not 0, nor is the read now, and increments of other cards are among them.
+/// Several answers are not 0, nor is the read now, and units of other cards are among them.
 const MIXED: u64 = 2;
 
 /// The one card that may clear the counter.
@@ -35,7 +35,7 @@ pub struct Total {
     pub answers: u64,
     /// The value of a read now.
     pub value: u64,
-    /// Increments received, and how many of them are the card's own.
+    /// Units received, and how many of them are the card's own.
     pub received: u64,
     pub own: u64,
 }
@@ -61,8 +61,8 @@ impl Collector {
         let read = library::read(words, self.counter as u64);
         assert_eq!(read.number, OK);
         let mut total = Total { value: read.value, ..Default::default() };
-        // Of each other card, the messages that this one has not taken: how many increments of the
-        // counter each is.
+        // Of each other card, the messages that this one has not taken: how many units of the
+        // counter each counts.
         let mut under_way = vec![VecDeque::new(); MOST_CARDS];
         for (step, value) in accepted {
             let (first, second) = (step.first as usize, step.second as usize);
@@ -72,12 +72,13 @@ impl Collector {
                 }
                 continue;
             }
-            let increments = u64::from(step.kind == STEP_COUNT && second == self.counter);
+            let counts = step.kind == STEP_COUNT && second == self.counter;
+            let units = if counts { u64::from(step.amount) } else { 0 };
             if first == self.card {
-                total.received += increments;
-                total.own += increments;
+                total.received += units;
+                total.own += units;
             } else {
-                under_way[first].push_back(increments);
+                under_way[first].push_back(units);
             }
             if step == self.collecting() {
                 total.answered += value;
@@ -150,7 +151,7 @@ pub fn require_all(tally: &Tally, lists: u64) {
     tally.require("total", &[NOTHING, SOME, MIXED]);
     assert!(tally.times("total", MIXED) > lists / 20, "few mixed totals");
     tally.require("collecting", &[OK, LOG_FULL]);
-    tally.require("forbidden", &[BAD_CARD, LOG_FULL]);
+    tally.require("forbidden", &[BAD_CARD, LOG_FULL, BAD_AMOUNT]);
     // Of other counters, by anyone and by either kind of step.
     tally.require("other", &[STEP_CLEAR.into(), STEP_READ_AND_CLEAR.into()]);
 }

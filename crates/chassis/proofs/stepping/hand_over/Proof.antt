@@ -9,7 +9,7 @@ use mir.Syntax.{w64}
 use mir.Val.{Fits}
 use denote.Ref.{now}
 use borrow.Author.Needs.{needs}
-use Rattle.wire.specs.Message.{called-length}
+use Rattle.wire.specs.Message.{version-2, called-length}
 use Rattle.chassis_model.specs.ListParts.{part, put-part}
 use Rattle.chassis.specs.StepCodeLaws.{replica-end, log-end, log-is-long, message-long, handed-over}
 use Rattle.chassis.proofs.stepping.hand_over.Statement.{statement}
@@ -55,7 +55,7 @@ next-message-requires c κs =
 message-is : (c : tie.After-next-message)
     → let args = c .before .before .before .before .before .before .args in
     let rest = drop (args .at) (part (args .sizes .«log_bytes») (now (args .logs)) (args .sender)) in
-    now (c .next-message .result) ≡ take (called-length rest) rest
+    now (c .next-message .result) ≡ take (called-length version-2 rest) rest
 unfolding part
 message-is c =
     let args = c .before .before .before .before .before .before .args in

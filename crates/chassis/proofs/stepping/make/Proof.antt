@@ -101,7 +101,7 @@ add-places c =
     let args = start .args in
     let inside : getD (now (args .places)) (link .link .result) 0 + append .append .result .length ≤ args .sizes .«log_bytes»
     = rw (link .link .ensures .0)
-    (made-place _ _ _ _ (start .pre .0) (args .making) (args .card) (args .counter) _ _ _ _ (start .pre .1) refl (sent-is append)) in
+    (made-place _ _ _ _ (start .pre .0) (args .making) (args .card) (args .counter) _ _ _ _ (start .pre .1) (start .pre .2) refl (sent-is append)) in
     let fits : Fits w64 (getD (now (args .places)) (link .link .result) 0 + append .append .result .length) = omega (arith, inside, capacity-fits (link .before)) in
     fits
 
@@ -132,7 +132,7 @@ returns c =
     let start = link .before .before .before in
     let args = start .args in
     rw (add-sub-cancel-left (args .card * args .sizes .«replica_words») (args .sizes .«replica_words»), add-sub-cancel-left (args .card * args .sizes .«log_bytes») (args .sizes .«log_bytes»), link .link .ensures .0)
-    (made-did _ _ _ _ (start .pre .0) (args .making) (args .card) (args .counter) _ _ _ _ (start .pre .1) refl (sent-is append) _
+    (made-did _ _ _ _ (start .pre .0) (args .making) (args .card) (args .counter) _ _ _ _ (start .pre .1) (start .pre .2) refl (sent-is append) _
     (ap {B = StepAnswer} (λ (n : ℕ). record { number = n; value = append .append .result .value }) (c .step-number .ensures)))
 
 pub make-spec : {M : Type 1} → statement M

@@ -5,12 +5,12 @@ use lib.ListN.{drop}
 use lib.Seq.{length-take-le}
 use denote.Ref.{now}
 use borrow.Author.Needs.{needs}
-use Rattle.wire.specs.Message.{called-length}
+use Rattle.wire.specs.Message.{version-2, called-length}
 use Rattle.chassis.specs.LogWalkLaws.{rest-is}
 use Rattle.chassis.proofs.stepping.next_message.Statement.{statement}
 use Rattle.chassis.proofs.stepping.next_message.Tie as tie
 
-called : (c : tie.After-called-length-of) → let args = c .before .before .before .args in c .called-length-of .result ≡ called-length (drop (args .at) (now (args .log)))
+called : (c : tie.After-called-length-of) → let args = c .before .before .before .args in c .called-length-of .result ≡ called-length version-2 (drop (args .at) (now (args .log)))
 called c = let args = c .before .before .before .args in rw (rest-is (args .at) (now (args .log))) at (c .called-length-of .ensures)
 
 sub-rest : tie.Need-sub-rest

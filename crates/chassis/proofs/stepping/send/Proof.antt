@@ -6,8 +6,11 @@ use Rattle.chassis_model.specs.Run.{call-of}
 use Rattle.chassis.proofs.stepping.send.Statement.{statement}
 use Rattle.chassis.proofs.stepping.send.Tie as tie
 
-enum-told : tie.Need-enum-told
-enum-told c = search needs
+enum-known-making : tie.Need-enum-known-making
+enum-known-making c = search needs
+
+cast-count : tie.Need-cast-count
+cast-count c = search needs
 
 count-requires : tie.Need-count-requires
 count-requires c κs = search needs
@@ -15,8 +18,8 @@ count-requires c κs = search needs
 beside-requires : tie.Need-beside-requires
 beside-requires c κs = search needs
 
-enum-told-2 : tie.Need-enum-told-2
-enum-told-2 c = search needs
+enum-told : tie.Need-enum-told
+enum-told c = search needs
 
 clear-requires : tie.Need-clear-requires
 clear-requires c κs = search needs
@@ -24,8 +27,8 @@ clear-requires c κs = search needs
 beside-requires-2 : tie.Need-beside-requires-2
 beside-requires-2 c κs = search needs
 
-enum-told-3 : tie.Need-enum-told-3
-enum-told-3 c = search needs
+enum-told-2 : tie.Need-enum-told-2
+enum-told-2 c = search needs
 
 read-and-clear-requires : tie.Need-read-and-clear-requires
 read-and-clear-requires c κs = search needs
@@ -40,7 +43,7 @@ returns : tie.Need-returns
 unfolding call-of
 returns c =
     let called = c .before .before .before .before .before in
-    rw (called .before .before .before .enum-told .given .1, c .beside .ensures) (ap (λ (o : SendOutcome). with-value 0 o) (called .count .ensures))
+    rw (called .before .before .before .before .making .given .1, c .beside .ensures) (ap (λ (o : SendOutcome). with-value 0 o) (called .count .ensures))
 
 same-length-3 : tie.Need-same-length-3
 same-length-3 c = search needs
@@ -52,7 +55,7 @@ returns-2 : tie.Need-returns-2
 unfolding call-of
 returns-2 c =
     let called = c .before .before .before .before .before in
-    rw (called .before .before .before .enum-told2 .given .1, c .beside2 .ensures) (ap (λ (o : SendOutcome). with-value 0 o) (called .clear .ensures))
+    rw (called .before .before .before .enum-told .given .1, c .beside2 .ensures) (ap (λ (o : SendOutcome). with-value 0 o) (called .clear .ensures))
 
 same-length-5 : tie.Need-same-length-5
 same-length-5 c = search needs
@@ -64,19 +67,20 @@ returns-3 : tie.Need-returns-3
 unfolding call-of
 returns-3 c =
     let called = c .before .before .before .before in
-    rw (called .before .before .before .enum-told3 .given .1) (called .read-and-clear .ensures)
+    rw (called .before .before .before .enum-told2 .given .1) (called .read-and-clear .ensures)
 
 pub send-spec : {M : Type 1} → statement M
 send-spec =
     tie.close
     (tie.spec
-    enum-told
+    enum-known-making
+    cast-count
     count-requires
     beside-requires
-    enum-told-2
+    enum-told
     clear-requires
     beside-requires-2
-    enum-told-3
+    enum-told-2
     read-and-clear-requires
     same-length
     same-length-2

@@ -18,8 +18,14 @@ add-read-u32-2 c = search needs
 read-u32-requires-3 : tie.Need-read-u32-requires-3
 read-u32-requires-3 c κs = search needs
 
+add-read-u32-3 : tie.Need-add-read-u32-3
+add-read-u32-3 c = search needs
+
+read-u32-requires-4 : tie.Need-read-u32-requires-4
+read-u32-requires-4 c κs = search needs
+
 returns : tie.Need-returns
-returns c = rw (c .before .before .read-u32 .ensures, c .before .read-u322 .ensures, c .read-u323 .ensures)
+returns c = rw (c .before .before .before .read-u32 .ensures, c .before .before .read-u322 .ensures, c .before .read-u323 .ensures, c .read-u324 .ensures)
 
 pub step-from-spec : {M : Type 1} → statement M
 step-from-spec =
@@ -30,4 +36,6 @@ step-from-spec =
     read-u32-requires-2
     add-read-u32-2
     read-u32-requires-3
+    add-read-u32-3
+    read-u32-requires-4
     returns)

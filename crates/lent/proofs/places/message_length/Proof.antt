@@ -10,7 +10,7 @@ use lib.ListN.{length, take, drop, length-drop}
 use lib.Seq.{length-take-le}
 use denote.Ref.{now}
 use borrow.Author.Needs.{needs}
-use Rattle.wire.specs.Message.{front-length}
+use Rattle.wire.specs.Message.{version-2, front-length}
 use Rattle.wire.specs.MessagePartsLaws.{HeaderRead, header-read}
 use Rattle.chassis_model.specs.Pending.{is-numbered}
 use Rattle.chassis.specs.LogWalkLaws.{rest-is}
@@ -24,14 +24,14 @@ rest-of c = drop (c .args .at) (now (c .args .log))
 
 front : (c : tie.After-front-length)
     → let rest = rest-of (c .before .before .before) in
-    (c .front-length .result ≡ front-length rest) × (c .front-length .result ≤ length rest)
+    (c .front-length .result ≡ front-length version-2 rest) × (c .front-length .result ≤ length rest)
 front c = let args = c .before .before .before .args in rw (rest-is (args .at) (now (args .log))) at (c .front-length .ensures)
 
 -- the message at the front, taken alone
 abbrev message-of : (c : tie.After-front-length) → List ℕ
-message-of c = let rest = rest-of (c .before .before .before) in take (front-length rest) rest
+message-of c = let rest = rest-of (c .before .before .before) in take (front-length version-2 rest) rest
 
-some : (c : tie.Else1) → front-length (rest-of (c .before .before .before .before)) ≡ 0 → ⊥
+some : (c : tie.Else1) → front-length version-2 (rest-of (c .before .before .before .before)) ≡ 0 → ⊥
 some c e = c .if1 .left (front (c .before) .0 ∙ e)
 
 header : (c : tie.After-header-from) → HeaderRead (message-of (c .before .before .before)) (c .header-from .result)

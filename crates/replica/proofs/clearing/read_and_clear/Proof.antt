@@ -1,6 +1,7 @@
 -- The number says which check failed, or that none did (`read-and-clear-refused`, `read-and-clear-passed`).
 use borrow.Author.Needs.{needs}
 use mathlib.Core.Path.{_≡_, sym, _∙_}
+use mathlib.Core.Bool.{true}
 use denote.Ref.{now}
 use Rattle.protocol.specs.Checks.{first-failing}
 use Rattle.replica_model.specs.Calls.{making-checks}
@@ -9,7 +10,7 @@ use Rattle.replica.specs.SendLaws.{sends, read-and-clear-refused, read-a
 use Rattle.replica.proofs.clearing.read_and_clear.Statement.{statement}
 use Rattle.replica.proofs.clearing.read_and_clear.Tie as tie
 
-none : (c : tie.Else1) → let start = c .before .before .before .before .before in first-failing (making-checks (now (start .args .words)) (start .args .counter)) ≡ 0
+none : (c : tie.Else1) → let start = c .before .before .before .before .before in first-failing (making-checks (now (start .args .words)) (start .args .counter) true 0) ≡ 0
 none c = sym (c .before .refusal .ensures) ∙ c .if1 .left
 
 refusal-requires : tie.Need-refusal-requires
@@ -30,7 +31,7 @@ returns c =
     rw (c .beside .ensures, c .before .refused .ensures, number .refusal .ensures) (read-and-clear-refused _ _ _ (rw (number .refusal .ensures) at (c .before .before .if1 .taken)))
 
 cards-of-requires : tie.Need-cards-of-requires
-cards-of-requires c κs = head-inside _ (sends _ _ (none (c .before)) .right)
+cards-of-requires c κs = head-inside _ (sends _ _ true 0 (none (c .before)) .0 .right)
 
 index-requires : tie.Need-index-requires
 index-requires c κs = search needs
@@ -38,7 +39,7 @@ index-requires c κs = search needs
 send-clear-requires : tie.Need-send-clear-requires
 send-clear-requires c κs =
     let found = c .before .before .before in
-    (found .cards-of .ensures, rw (c .before .index .ensures) (sends _ _ (none (found .before .before))))
+    (found .cards-of .ensures, rw (c .before .index .ensures) (sends _ _ true 0 (none (found .before .before)) .0))
 
 same-length-2 : tie.Need-same-length-2
 same-length-2 c = search needs

@@ -15,7 +15,7 @@ use Rattle.protocol.specs.Rows.{WellFormed}
 use Rattle.protocol.specs.Chassis.{clearing, present-entries, read-value}
 use Rattle.protocol.specs.StoreLaws.{shown}
 use Rattle.wire.specs.declared.Message.{Message}
-use Rattle.wire.specs.Message.{clear-message}
+use Rattle.wire.specs.Message.{version-2, clear-message}
 use Rattle.wire.specs.EntriesLaws.{holding}
 use Rattle.replica_model.specs.Layout.{entry-of}
 use Rattle.replica_model.specs.PresentLaws.{entry-sent, absent-turn, present-turn, present-few}
@@ -39,10 +39,10 @@ abbrev μ-loop : tie.MeasureT-loop
 μ-loop words r q out own sequence m₀ value₀ len₀ j₀ m value len j = r - j
 
 few : (c : tie.Start Inv-loop μ-loop) → c .args .r ≤ most-cards
-few c = few-cards _ _ _ (row-inside _ _ _ (c .pre .0) (c .pre .1))
+few c = few-cards _ _ _ (row-inside _ _ _ _ (c .pre .0) (c .pre .1))
 
 own-in : (c : tie.After-own-card Inv-loop μ-loop) → c .own-card .result < c .before .before .before .before .args .r
-own-in c = let pre = c .before .before .before .before .pre in rw (c .own-card .ensures) (own-below _ _ _ (pre .0) (pre .1))
+own-in c = let pre = c .before .before .before .before .pre in rw (c .own-card .ensures) (own-below _ _ _ _ (pre .0) (pre .1))
 
 -- what the row says of card j's entry
 known : (c : tie.Start Inv-loop μ-loop) (j : ℕ) → j < c .args .r → WellFormed MAX (entry-of (c .args .r) (now (c .args .words)) (c .args .q) j)
@@ -77,10 +77,11 @@ made : (c : tie.After-loop Inv-loop μ-loop) → let at = c .before in let seen 
       counter = m .counter;
       p = m .p;
       start = m .start;
+      amount = m .amount;
       len = at .loop .len;
       entries = m .entries;
     })
-    (clear-message (seen .before .before .own-card .result) (seen .messages-at .result + 1) (start .args .q) (present-entries (start .args .r) (entry-of (start .args .r) (now (start .args .words)) (start .args .q))))
+    (clear-message version-2 (seen .before .before .own-card .result) (seen .messages-at .result + 1) (start .args .q) (present-entries (start .args .r) (entry-of (start .args .r) (now (start .args .words)) (start .args .q))))
 unfolding clear-message
 made c =
     let at = c .before in
@@ -98,6 +99,7 @@ clear : (c : tie.After-loop Inv-loop μ-loop) → let at = c .before in let star
       counter = m .counter;
       p = m .p;
       start = m .start;
+      amount = m .amount;
       len = at .loop .len;
       entries = m .entries;
     })
@@ -110,13 +112,13 @@ messages-at-requires : tie.Need-messages-at-requires Inv-loop μ-loop
 messages-at-requires c κs =
     let mine = c .before in
     let pre = mine .before .before .before .before .pre in
-    row-N _ _ _ (row-inside _ _ _ (pre .0) (pre .1)) _ (own-in mine)
+    row-N _ _ _ (row-inside _ _ _ _ (pre .0) (pre .1)) _ (own-in mine)
 
 add-sequence : tie.Need-add-sequence Inv-loop μ-loop
 add-sequence c =
     let mine = c .before .before in
     let pre = mine .before .before .before .before .pre in
-    rw (c .messages-at .ensures, mine .own-card .ensures) (omega (arith, own-numbers _ _ _ (pre .0) (pre .1)))
+    rw (c .messages-at .ensures, mine .own-card .ensures) (omega (arith, own-numbers _ _ _ _ (pre .0) (pre .1)))
 
 cast-t19 : tie.Need-cast-t19 Inv-loop μ-loop
 cast-t19 c = let mine = c .before .before in omega (arith, own-in mine, few (mine .before .before .before .before))
@@ -129,7 +131,7 @@ unfolding present-entries sum
 loop-holds c = (omega arith, refl, refl, refl)
 
 entry-at-requires : tie.Need-entry-at-requires Inv-loop μ-loop
-entry-at-requires c κs = let start = c .before .before .before .before .before .before .before .before .before in (row-inside _ _ _ (start .pre .0) (start .pre .1), c .before .loop-test .taken)
+entry-at-requires c κs = let start = c .before .before .before .before .before .before .before .before .before in (row-inside _ _ _ _ (start .pre .0) (start .pre .1), c .before .loop-test .taken)
 
 cast-card : tie.Need-cast-card Inv-loop μ-loop
 cast-card c = omega (arith, few (c .before .before .before .before .before .before .before .before .before .before))
@@ -229,7 +231,7 @@ apply-clear-requires c κs =
     let after = c .before .before .before .before .before .before .before in
     let mine = after .before .before .before .before in
     let pre = mine .before .before .before .before .pre in
-    rw (mine .own-card .ensures) (sends-receives _ _ _ (pre .0) (pre .1), clear after .few, clear after .below)
+    rw (mine .own-card .ensures) (sends-receives _ _ _ _ (pre .0) (pre .1), clear after .few, clear after .below)
 
 same-length-2 : tie.Need-same-length-2 Inv-loop μ-loop
 same-length-2 c = search needs

@@ -1,19 +1,35 @@
 -- The number says which check failed, or that none did (`send-refused`, `send-passed`).
 use borrow.Author.Needs.{needs}
 use mathlib.Core.Path.{_≡_, sym, _∙_}
+use mathlib.Core.Bool.{true}
 use denote.Ref.{now}
 use Rattle.protocol.specs.Checks.{first-failing}
-use Rattle.replica_model.specs.Calls.{making-checks, count-on}
+use Rattle.replica_model.specs.Calls.{is-amount, making-checks, count-on}
+use Rattle.replica_model.specs.Senders.{Sending}
 use Rattle.replica.specs.WordsLaws.{head-inside}
-use Rattle.replica.specs.SendLaws.{sends, send-refused, send-passed}
+use Rattle.replica.specs.SendLaws.{amount-range, sends, send-refused, send-passed}
 use Rattle.replica.proofs.counting.count.Statement.{statement}
 use Rattle.replica.proofs.counting.count.Tie as tie
 
-none : (c : tie.Else1) → let start = c .before .before .before .before .before in first-failing (making-checks (now (start .args .words)) (start .args .counter)) ≡ 0
-none c = sym (c .before .refusal .ensures) ∙ c .if1 .left
+number-is : (c : tie.After-refusal) → let args = c .before .before .before .before .before .args in
+    c .refusal .result ≡ first-failing (making-checks (now (args .words)) (args .counter) (is-amount (args .amount)) (args .amount))
+number-is c = c .refusal .ensures ∙ rw (c .before .is-amount .ensures)
+
+none : (c : tie.Else1) → let args = c .before .before .before .before .before .before .args in
+    first-failing (making-checks (now (args .words)) (args .counter) (is-amount (args .amount)) (args .amount)) ≡ 0
+none c = sym (number-is (c .before)) ∙ c .if1 .left
+
+sending : (c : tie.Else1) → let args = c .before .before .before .before .before .before .args in
+    Sending (now (args .words)) (args .counter) (args .amount) × (is-amount (args .amount) ≡ true)
+sending c =
+    let args = c .before .before .before .before .before .before .args in
+    sends (now (args .words)) (args .counter) (is-amount (args .amount)) (args .amount) (none c)
+
+is-amount-requires : tie.Need-is-amount-requires
+is-amount-requires c κs = search needs
 
 refusal-requires : tie.Need-refusal-requires
-refusal-requires c κs = search needs
+refusal-requires c κs = λ asked. amount-range _ (sym (c .is-amount .ensures) ∙ asked) .1
 
 refused-requires : tie.Need-refused-requires
 refused-requires c κs = search needs
@@ -25,10 +41,10 @@ returns : tie.Need-returns
 unfolding count-on
 returns c =
     let number = c .before .before in
-    rw (c .refused .ensures, number .refusal .ensures) (send-refused _ _ _ _ (rw (number .refusal .ensures) at (c .before .if1 .taken)))
+    rw (c .refused .ensures, number-is number) (send-refused _ _ _ _ _ _ (rw (number-is number) at (c .before .if1 .taken)))
 
 cards-of-requires : tie.Need-cards-of-requires
-cards-of-requires c κs = head-inside _ (sends _ _ (none (c .before)) .right)
+cards-of-requires c κs = head-inside _ (sending (c .before) .0 .right)
 
 index-requires : tie.Need-index-requires
 index-requires c κs = search needs
@@ -36,7 +52,8 @@ index-requires c κs = search needs
 send-increment-requires : tie.Need-send-increment-requires
 send-increment-requires c κs =
     let found = c .before .before .before in
-    (found .cards-of .ensures, rw (c .before .index .ensures) (sends _ _ (none (found .before .before))))
+    let passed = sending (found .before .before) in
+    (found .cards-of .ensures, rw (c .before .index .ensures) (passed .0), passed .1)
 
 same-length-2 : tie.Need-same-length-2
 same-length-2 c = search needs
@@ -50,12 +67,13 @@ returns-2 c =
     let done = c .before .before .before .before in
     let indexed = done .before .before in
     let else1 = indexed .before .before .before .before in
-    (rw (indexed .index .ensures) at (done .send-increment .ensures)) ∙ send-passed _ _ _ _ (none else1)
+    (rw (indexed .index .ensures) at (done .send-increment .ensures)) ∙ send-passed _ _ _ _ _ _ (none else1)
 
 pub count-spec : {M : Type 1} → statement M
 count-spec =
     tie.close
     (tie.spec
+    is-amount-requires
     refusal-requires
     refused-requires
     same-length

@@ -40,7 +40,7 @@ returns c =
     let known = found .before .before in
     let start = known .before .before .before in
     rw (counted .receive .ensures, stored .put-entry .ensures, made .incremented-entry .ensures, found .entry-at .ensures, known .increments-at .ensures)
-    (increment-taken (now (start .args .words)) (start .args .r) (start .args .q) (start .args .j) (start .pre .0) (start .args .p) (start .args .start))
+    (increment-taken (now (start .args .words)) (start .args .r) (start .args .q) (start .args .j) (start .pre .0) (start .args .amount) (start .args .p) (start .args .start))
 
 pub apply-increment-spec : {M : Type 1} → statement M
 apply-increment-spec =

@@ -1,4 +1,4 @@
--- By the one test: an increment that starts or finds no entry brings p - 1, another brings 0.
+-- By the one test: an increment that starts or finds no entry brings p less the amount, another brings 0.
 use borrow.Author.Needs.{needs}
 use Rattle.replica.proofs.effect.brought_n.Statement.{statement}
 use Rattle.replica.proofs.effect.brought_n.Tie as tie

@@ -1,14 +1,16 @@
 -- Each return is the number of the first check that fails; the checks before it, which passed, give what the next one asks.
 use borrow.Author.Needs.{needs}
 use mathlib.Core.Path.{_≡_, sym, _∙_}
-use mathlib.Core.Bool.{true}
-use Prim.Native.Nat.{_<_}
+use mathlib.Core.Bool.{true, not, _&&_}
+use Prim.Native.Nat.{_+_, _<_}
+use lib.Dec.{leb, eqb}
 use denote.Ref.{now}
-use borrow.Author.Tests.{not-true, not-false, lt-ltb, le-ltb, eq-eqb, ne-eqb}
-use Rattle.replica_model.specs.Layout.{cards, counters, own-card, N-of}
+use borrow.Author.Tests.{not-true, not-false, lt-ltb, le-ltb}
+use Rattle.protocol.specs.Limits.{MAX}
+use Rattle.replica_model.specs.Layout.{cards, counters, own-card, C-of, N-of}
 use Rattle.replica_model.specs.Calls.{right, row-well-formed}
-use Rattle.replica_model.specs.RowLaws.{right-facts}
-use Rattle.replica.specs.WordsLaws.{RowInside, head-inside, row-N}
+use Rattle.replica_model.specs.RowLaws.{right-facts, row-facts}
+use Rattle.replica.specs.WordsLaws.{RowInside, head-inside, row-C, row-N}
 use Rattle.replica.proofs.sending.refusal.Statement.{statement}
 use Rattle.replica.proofs.sending.refusal.Tie as tie
 
@@ -22,16 +24,25 @@ is-row : (c : tie.Else2) → let found = c .before .before in let start = found 
     RowInside (now (start .args .words)) (found .cards-of .result) (start .args .counter)
 is-row c = let found = c .before .before in record { right = right-facts _ (is-right (found .before)); first = found .cards-of .ensures; counter = is-below c }
 
-is-formed : (c : tie.Else3) → let start = c .before .before .before .before .before .before .before .before .before in
-    row-well-formed (now (start .args .words)) (start .args .counter) ≡ true
-is-formed c = rw (c .before .before .index .ensures) at (sym (c .before .is-row-well-formed .ensures) ∙ not-false _ (c .if3 .left))
+is-asked : (c : tie.Else3) → c .before .before .before .before .before .before .before .args .asked ≡ true
+is-asked c = not-false _ (c .if3 .left)
 
-own-messages : (c : tie.After-messages-at) → let start = c .before .before .before .before .before .before .before .before .before .before .before in
-    c .messages-at .result ≡ N-of (cards (now (start .args .words))) (now (start .args .words)) (own-card (now (start .args .words)))
-own-messages c =
-    let mine = c .before in
-    let found = mine .before .before .before .before .before .before in
-    c .messages-at .ensures ∙ rw (mine .own-card .ensures, found .cards-of .ensures)
+is-formed : (c : tie.Else4) → let start = c .before .before .before .before .before .before .before .before .before .before in
+    row-well-formed (now (start .args .words)) (start .args .counter) ≡ true
+is-formed c = rw (c .before .before .index .ensures) at (sym (c .before .is-row-well-formed .ensures) ∙ not-false _ (c .if4 .left))
+
+-- the own card is in the row
+own-in : (c : tie.After-own-card) → let found = c .before .before .before .before .before .before .before in c .own-card .result < found .cards-of .result
+own-in c = let h = is-row (c .before .before .before .before .before) in rw (h .first, c .own-card .ensures) (h .right .own)
+
+own-left : (c : tie.After-is-left) → let start = c .before .before .before .before .before .before .before .before .before .before .before .before .before .before in let b = now (start .args .words) in
+    c .is-left .result ≡ (not (eqb (N-of (cards b) b (own-card b)) MAX) && leb (C-of b (own-card b) + start .args .units) MAX)
+own-left c =
+    let counted = c .before in
+    let seen = counted .before in
+    let mine = seen .before in
+    let found = mine .before .before .before .before .before .before .before in
+    c .is-left .ensures ∙ rw (counted .increments-at .ensures, seen .messages-at .ensures, mine .own-card .ensures, found .cards-of .ensures)
 
 is-right-requires : tie.Need-is-right-requires
 is-right-requires c κs = search needs
@@ -50,42 +61,60 @@ returns-2 c =
     let k = c .before in
     rw (is-right (k .before .before), le-ltb _ _ (rw (k .counters-of .ensures) at (c .if2 .taken)))
 
+returns-3 : tie.Need-returns-3
+returns-3 c =
+    let else2 = c .before in
+    let start = else2 .before .before .before .before .before .before in
+    rw (is-right (else2 .before .before .before), lt-ltb _ _ (is-below else2), not-true (start .args .asked) (c .if3 .taken))
+
 index-requires : tie.Need-index-requires
 index-requires c κs = search needs
 
 is-row-well-formed-requires : tie.Need-is-row-well-formed-requires
-is-row-well-formed-requires c κs = rw (c .index .ensures) (is-row (c .before))
-
-returns-3 : tie.Need-returns-3
-returns-3 c =
-    let checked = c .before in
-    let else2 = checked .before .before in
-    let not-formed = rw (checked .before .index .ensures) at (sym (checked .is-row-well-formed .ensures) ∙ not-true _ (c .if3 .taken)) in
-    rw (is-right (else2 .before .before .before), lt-ltb _ _ (is-below else2), not-formed)
-
-own-card-requires : tie.Need-own-card-requires
-own-card-requires c κs =
-    let else2 = c .before .before .before in
-    head-inside _ (right-facts _ (is-right (else2 .before .before .before)))
-
-messages-at-requires : tie.Need-messages-at-requires
-messages-at-requires c κs =
-    let h = is-row (c .before .before .before .before) in
-    row-N _ _ _ h _ (rw (h .first, c .own-card .ensures) (h .right .own))
+is-row-well-formed-requires c κs = rw (c .index .ensures) (is-row (c .before .before))
 
 returns-4 : tie.Need-returns-4
 returns-4 c =
-    let read = c .before in
-    let else3 = read .before .before in
-    let else2 = else3 .before .before .before in
-    rw (is-right (else2 .before .before .before), lt-ltb _ _ (is-below else2), is-formed else3, eq-eqb _ _ (sym (own-messages read) ∙ c .if4 .taken))
+    let checked = c .before in
+    let else3 = checked .before .before in
+    let else2 = else3 .before in
+    let not-formed = rw (checked .before .index .ensures) at (sym (checked .is-row-well-formed .ensures) ∙ not-true _ (c .if4 .taken)) in
+    rw (is-right (else2 .before .before .before), lt-ltb _ _ (is-below else2), is-asked else3, not-formed)
+
+own-card-requires : tie.Need-own-card-requires
+own-card-requires c κs = head-inside _ (is-row (c .before .before .before .before) .right)
+
+messages-at-requires : tie.Need-messages-at-requires
+messages-at-requires c κs = row-N _ _ _ (is-row (c .before .before .before .before .before)) _ (own-in c)
+
+increments-at-requires : tie.Need-increments-at-requires
+increments-at-requires c κs = let mine = c .before in row-C _ _ _ (is-row (mine .before .before .before .before .before)) _ (own-in mine)
+
+is-left-requires : tie.Need-is-left-requires
+is-left-requires c κs =
+    let mine = c .before .before in
+    let else4 = mine .before in
+    let else3 = else4 .before .before .before in
+    let start = else3 .before .before .before .before .before .before .before in (
+      rw (c .increments-at .ensures, mine .own-card .ensures) (row-facts _ _ (is-formed else4) .C≤MAX _ (is-row (else3 .before) .right .own)),
+      start .pre (is-asked else3),
+    )
 
 returns-5 : tie.Need-returns-5
 returns-5 c =
-    let read = c .before in
-    let else3 = read .before .before in
-    let else2 = else3 .before .before .before in
-    rw (is-right (else2 .before .before .before), lt-ltb _ _ (is-below else2), is-formed else3, ne-eqb _ _ (λ e. c .if4 .left (own-messages read ∙ e)))
+    let left = c .before in
+    let else4 = left .before .before .before .before in
+    let else3 = else4 .before .before .before in
+    let else2 = else3 .before in
+    rw (is-right (else2 .before .before .before), lt-ltb _ _ (is-below else2), is-asked else3, is-formed else4, sym (own-left left) ∙ not-true _ (c .if5 .taken))
+
+returns-6 : tie.Need-returns-6
+returns-6 c =
+    let left = c .before in
+    let else4 = left .before .before .before .before in
+    let else3 = else4 .before .before .before in
+    let else2 = else3 .before in
+    rw (is-right (else2 .before .before .before), lt-ltb _ _ (is-below else2), is-asked else3, is-formed else4, sym (own-left left) ∙ not-false _ (c .if5 .left))
 
 pub refusal-spec : {M : Type 1} → statement M
 refusal-spec =
@@ -96,10 +125,13 @@ refusal-spec =
     cards-of-requires
     counters-of-requires
     returns-2
+    returns-3
     index-requires
     is-row-well-formed-requires
-    returns-3
+    returns-4
     own-card-requires
     messages-at-requires
-    returns-4
-    returns-5)
+    increments-at-requires
+    is-left-requires
+    returns-5
+    returns-6)

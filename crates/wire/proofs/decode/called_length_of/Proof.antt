@@ -33,13 +33,16 @@ returns c =
     let n = count-read s (header .header-from .result) (header .header-from .ensures) _ _ (word .next-int .ensures) in
     rw (c .clear-length .ensures, ← h .kind, eq-eqb _ clear-kind (word .before .if1 .taken), ← n .number)
 
+increment-length-requires : tie.Need-increment-length-requires
+increment-length-requires c κs = search needs
+
 returns-2 : tie.Need-returns-2
 unfolding called-length
 returns-2 c =
-    let header = c .before .before in
+    let header = c .before .before .before in
     let s = now (header .before .before .args .bytes) in
     let h = header-read s (header .header-from .result) (header .header-from .ensures) in
-    rw (← h .kind, ne-eqb _ clear-kind (c .if1 .left))
+    rw (c .increment-length .ensures, ← h .kind, ne-eqb _ clear-kind (c .before .if1 .left))
 
 pub called-length-of-spec : {M : Type 1} → statement M
 called-length-of-spec =
@@ -50,4 +53,5 @@ called-length-of-spec =
     cast-clear-length
     clear-length-requires
     returns
+    increment-length-requires
     returns-2)

@@ -28,7 +28,7 @@ counted : (c : tie.After-next-int Inv-loop μ-loop) → let start = c .before .b
 counted c = let start = c .before .before in count-read (now (start .args .bytes)) (start .args .header) (start .pre .1) _ _ (c .next-int .ensures)
 
 next-int-requires : tie.Need-next-int-requires Inv-loop μ-loop
-next-int-requires c κs = let start = c .before in omega (arith, sent start .behind, read-long (now (start .args .bytes)) (start .pre .0))
+next-int-requires c κs = let start = c .before in omega (arith, sent start .behind, read-long (start .args .header .version) (now (start .args .bytes)) (start .pre .0))
 
 cast-len : tie.Need-cast-len Inv-loop μ-loop
 cast-len c = search needs
@@ -37,7 +37,7 @@ loop-holds : tie.Need-loop-holds Inv-loop μ-loop
 unfolding entries-at
 loop-holds c =
     let start = c .before .before .before in
-    let r = read-count (now (start .args .bytes)) (start .pre .0) (sym (sent start .kind) ∙ start .pre .2) in
+    let r = read-count (start .args .header .version) (now (start .args .bytes)) (start .pre .0) (sym (sent start .kind) ∙ start .pre .2) in
     let n = counted (c .before) in
     (search needs, omega (arith, r .0, n .number), omega (arith, r .1, n .number, n .behind), search needs, search needs)
 
@@ -72,9 +72,10 @@ returns c =
     let word = at .before .before in
     let start = word .before .before in
     let n = counted word in
+    let h = sent start in
     let all : at .loop .i ≡ word .next-int .result .number = omega arith in
     at .loop .inv .4
-    ∙ rw (all, n .number, n .behind, start .pre .1) (clear-parts (now (start .args .bytes)) (sym (sent start .kind) ∙ start .pre .2))
+    ∙ rw (all, n .number, n .behind, h .sender, h .sequence, h .counter) (clear-parts (start .args .header .version) (now (start .args .bytes)) (sym (sent start .kind) ∙ start .pre .2))
 
 pub clear-message-spec : {M : Type 1} → statement M
 clear-message-spec =

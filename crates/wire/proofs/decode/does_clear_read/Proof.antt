@@ -4,6 +4,7 @@ use mathlib.Core.Path.{sym, _∙_}
 use native.Mathlib.Omega.{arith}
 use denote.Ref.{now}
 use Rattle.wire.specs.MessageLaws.{reads-clear-many, reads-clear-inexact, reads-clear-exact}
+use Rattle.wire.specs.RangeLaws.{known-header}
 use Rattle.wire.specs.MessagePartsLaws.{HeaderRead, header-read, CountRead, count-read}
 use Rattle.wire.proofs.decode.does_clear_read.Statement.{statement}
 use Rattle.wire.proofs.decode.does_clear_read.Tie as tie
@@ -26,7 +27,7 @@ returns c =
     let read = c .before .before in
     let start = read .before .before in
     let h = sent start in
-    reads-clear-many (now (start .args .bytes)) (sym (h .version) ∙ start .pre .1) (sym (h .kind) ∙ start .pre .2) (read .next-int .result .number) (counted read .number) (c .if1 .taken)
+    reads-clear-many (start .args .version) (now (start .args .bytes)) (sym (h .version) ∙ start .pre .1) (sym (h .kind) ∙ start .pre .2) (read .next-int .result .number) (counted read .number) (c .if1 .taken)
 
 clear-length-requires : tie.Need-clear-length-requires
 clear-length-requires c κs = search needs
@@ -37,10 +38,10 @@ returns-2 c =
     let read = sized .before .before .before in
     let start = read .before .before in
     let h = sent start in
-    reads-clear-inexact (now (start .args .bytes)) (sym (h .version) ∙ start .pre .1) (sym (h .kind) ∙ start .pre .2) (read .next-int .result .number) (counted read .number) (λ e. c .if2 .taken (e ∙ sym (sized .clear-length .ensures)))
+    reads-clear-inexact (start .args .version) (now (start .args .bytes)) (sym (h .version) ∙ start .pre .1) (sym (h .kind) ∙ start .pre .2) (read .next-int .result .number) (counted read .number) (λ e. c .if2 .taken (e ∙ sym (sized .clear-length .ensures)))
 
-header-in-range-requires : tie.Need-header-in-range-requires
-header-in-range-requires c κs = search needs
+rest-in-range-requires : tie.Need-rest-in-range-requires
+rest-in-range-requires c κs = search needs
 
 are-entries-in-range-requires : tie.Need-are-entries-in-range-requires
 are-entries-in-range-requires c κs =
@@ -59,8 +60,8 @@ returns-3 c =
     let start = read .before .before in
     let h = sent start in
     let n = counted read in
-    rw (header .header-in-range .ensures, c .are-entries-in-range .ensures, n .behind, start .pre .0)
-    (sym (reads-clear-exact (now (start .args .bytes)) (sym (h .version) ∙ start .pre .1) (sym (h .kind) ∙ start .pre .2) (read .next-int .result .number) (n .number) (else1 .if1 .left) (else2 .if2 .left ∙ sized .clear-length .ensures)))
+    rw (header .rest-in-range .ensures ∙ known-header (start .args .version) (start .args .header .sender) (start .args .header .sequence) (start .args .header .counter) (start .pre .4), c .are-entries-in-range .ensures, n .behind, start .pre .0)
+    (sym (reads-clear-exact (start .args .version) (now (start .args .bytes)) (sym (h .version) ∙ start .pre .1) (sym (h .kind) ∙ start .pre .2) (read .next-int .result .number) (n .number) (else1 .if1 .left) (else2 .if2 .left ∙ sized .clear-length .ensures)))
 
 pub does-clear-read-spec : {M : Type 1} → statement M
 does-clear-read-spec =
@@ -71,6 +72,6 @@ does-clear-read-spec =
     returns
     clear-length-requires
     returns-2
-    header-in-range-requires
+    rest-in-range-requires
     are-entries-in-range-requires
     returns-3)

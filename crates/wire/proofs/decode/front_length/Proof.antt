@@ -13,9 +13,10 @@ use Rattle.wire.proofs.decode.front_length.Tie as tie
 
 returns : tie.Need-returns
 returns c =
-    let s = now (c .before .before .args .bytes) in
-    let short : length s < called-length s = omega (arith, called-length-least s) in
-    (front-length-short s (called-length s) refl short, search needs)
+    let args = c .before .before .args in
+    let s = now (args .bytes) in
+    let short : length s < called-length (args .version) s = omega (arith, called-length-least (args .version) s) in
+    (front-length-short (args .version) s (called-length (args .version) s) refl short, search needs)
 
 called-length-of-requires : tie.Need-called-length-of-requires
 called-length-of-requires c κs = search needs
@@ -23,8 +24,9 @@ called-length-of-requires c κs = search needs
 returns-2 : tie.Need-returns-2
 returns-2 c =
     let called = c .before .called-length-of in
-    let s = now (c .before .before .before .before .args .bytes) in
-    (front-length-short s (called .result) (called .ensures) (c .if2 .taken), search needs)
+    let args = c .before .before .before .before .args in
+    let s = now (args .bytes) in
+    (front-length-short (args .version) s (called .result) (called .ensures) (c .if2 .taken), search needs)
 
 slice-aggregate-reads : tie.Need-slice-aggregate-reads
 slice-aggregate-reads c = sym (length-take-le _ _ (c .before .if2 .left))
@@ -37,16 +39,18 @@ returns-3 c =
     let read = c .before in
     let else2 = read .before .before in
     let called = else2 .before .called-length-of in
-    let s = now (else2 .before .before .before .before .args .bytes) in
-    (front-length-some s (called .result) (called .ensures) (else2 .if2 .left) (sym (read .reads .ensures) ∙ c .if3 .taken), search needs)
+    let args = else2 .before .before .before .before .args in
+    let s = now (args .bytes) in
+    (front-length-some (args .version) s (called .result) (called .ensures) (else2 .if2 .left) (sym (read .reads .ensures) ∙ c .if3 .taken), search needs)
 
 returns-4 : tie.Need-returns-4
 returns-4 c =
     let read = c .before in
     let else2 = read .before .before in
     let called = else2 .before .called-length-of in
-    let s = now (else2 .before .before .before .before .args .bytes) in
-    (front-length-none s (called .result) (called .ensures) (else2 .if2 .left) (sym (read .reads .ensures) ∙ c .if3 .left), search needs)
+    let args = else2 .before .before .before .before .args in
+    let s = now (args .bytes) in
+    (front-length-none (args .version) s (called .result) (called .ensures) (else2 .if2 .left) (sym (read .reads .ensures) ∙ c .if3 .left), search needs)
 
 pub front-length-spec : {M : Type 1} → statement M
 front-length-spec =

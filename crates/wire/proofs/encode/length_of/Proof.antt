@@ -11,8 +11,13 @@ clear-length-requires c κs = search needs
 returns : tie.Need-returns
 returns c = rw (c .clear-length .ensures, eq-eqb _ clear-kind (c .before .if1 .taken))
 
+increment-length-requires : tie.Need-increment-length-requires
+increment-length-requires c κs = search needs
+
 returns-2 : tie.Need-returns-2
-returns-2 c = rw (ne-eqb _ clear-kind (c .if1 .left))
+returns-2 c = rw (c .increment-length .ensures, ne-eqb _ clear-kind (c .before .if1 .left))
 
 pub length-of-spec : {M : Type 1} → statement M
-length-of-spec = tie.close (tie.spec clear-length-requires returns returns-2)
+length-of-spec =
+    tie.close
+    (tie.spec clear-length-requires returns increment-length-requires returns-2)

@@ -154,7 +154,7 @@ returns-5 c =
     let args = sized .before .before .before .before .before .before .before .args in
     let in-range-m = fits (sized .before) in
     let stored = rw (increment-bytes-from (args .t1) in-range-m (else4 .if4 .left)) at (call .put-increment .ensures) in
-    write-done (args .t1) (now (args .out)) (sized .length-of .result) (call .put-increment .last .1 .1 .1 .1 .1 .0) (sized .length-of .ensures) in-range-m (else3 .if3 .left) stored
+    write-done (args .t1) (now (args .out)) (sized .length-of .result) (call .put-increment .last .1 .1 .1 .1 .1 .1 .1 .0) (sized .length-of .ensures) in-range-m (else3 .if3 .left) stored
 
 pub write-message-spec : {M : Type 1} → statement M
 write-message-spec =

@@ -133,7 +133,7 @@ not-is false h = refl
 
 -- a record's bytes in memory, and its machine values
 abbrev record-size : ℕ
-record-size = 12
+record-size = 16
 
 abbrev vals : Step → List Val
 vals = LL.vals T.the-type T′.the-laws
@@ -437,7 +437,7 @@ module _ {M : Type 1} (𝓤 : URA M) (H : Heap 𝓤) (A : Atoms 𝓤) (W : Laws 
           again ! Near At t (next r k l steps words₀ logs₀ answers₀ begun₁ t d j (z .1 .1 .1 .1 .1 .0) (z .1 .1 .1 .1 .1 .1 .0) (z .1 .1 .1 .1 .1 .1 .1 .0) (z .1 .1 .1 .1 .1 .1 .1 .1 .0) small lw lg lz did) (omega (arith, did .next, small)))))))))))))
         where
           d : Step
-          d = record { kind = 0; first = 0; second = 0 }
+          d = record { kind = 0; first = 0; second = 0; amount = 0 }
 
           s : Step
           s = getD steps (t .i) d
