@@ -57,8 +57,8 @@ fn send_increment(words: &mut [u64], r: usize, q: usize, amount: u64, out: &mut 
     }
 }
 
-// Ruled out: a count that restarts p after a clear (must-fail/restart_p_at_one), one that makes an absent entry with n = 0
-// (must-fail/start_at_zero_when_absent), and one that leaves the amount out of p (must-fail/amount_left_out_of_p).
+// Ruled out: a count that leaves the amount out of p (must-fail/amount_left_out_of_p), one that makes an absent entry with n = p - 1
+// (must-fail/starts_at_p_minus_one), and one that restarts p after a clear (must-fail/restart_p_at_one of crate protocol).
 pub fn count(words: &mut [u64], counter: u64, amount: u64, out: &mut [u8]) -> Sent
     ensures { λ a. ⌜ _≡_ {A = SendOutcome} (record { answer = a; words = now (words .exit); out = now (out .exit) }) (count-on (now (words .entry)) counter amount (now (out .entry))) ⌝ }
 {

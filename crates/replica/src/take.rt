@@ -187,7 +187,8 @@ fn take_clear(words: &mut [u64], message: &[u8], header: Header) -> Taken
 }
 
 // Ruled out: a take that keeps the replica (must-fail/take_keeps_replica), an increment that moves another counter than its own
-// (must-fail/taken_on_another_counter), and a message of version 1 that is taken (must-fail/version_1_taken).
+// (must-fail/taken_on_another_counter), and a message of version 1 that is taken
+// (must-fail/version_1_taken of crate replica_model).
 pub fn take(words: &mut [u64], message: &[u8]) -> Taken
     ensures { λ a. ⌜ _≡_ {A = TakeOutcome} (record { answer = a; words = now (words .exit) }) (take-on (now (words .entry)) (now (message .entry))) ⌝ }
 {
