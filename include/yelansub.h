@@ -79,7 +79,8 @@ extern "C" {
 #define YELANSUB_LONGEST_MESSAGE YELANSUB_CLEAR_BYTES(YELANSUB_MOST_CARDS)
 
 /* The version of a message that every call writes and reads; the version before, without an
-   amount, which only yelansub_read_message and yelansub_write_message know; and the kinds. */
+   amount, which only the calls for a message alone and those that convert a log know; and the
+   kinds. */
 #define YELANSUB_MESSAGE_VERSION 2
 #define YELANSUB_MESSAGE_VERSION_1 1
 #define YELANSUB_MESSAGE_INCREMENT 1
@@ -96,8 +97,8 @@ extern "C" {
 #define YELANSUB_BAD_ROW 2          /* the counter's row is not well-formed */
 #define YELANSUB_BAD_COUNTER 3      /* counter not below k */
 #define YELANSUB_EXHAUSTED 4        /* the card has no message, or too few units, left */
-#define YELANSUB_SHORT_OUTPUT 5     /* output shorter than the message */
-#define YELANSUB_UNREADABLE 6       /* bytes to read, or a struct to write, are no message */
+#define YELANSUB_SHORT_OUTPUT 5     /* output shorter than the message, or than the converted log */
+#define YELANSUB_UNREADABLE 6       /* bytes to read, or a struct to write, are no message or log */
 #define YELANSUB_BAD_CARD 7         /* a card not below r, or the own card as sender */
 #define YELANSUB_REPEATED 8         /* this message of the sender has been taken */
 #define YELANSUB_EARLY 9            /* an earlier message of the sender is missing */
@@ -108,6 +109,7 @@ extern "C" {
 #define YELANSUB_LOG_FULL 14        /* the card's log is too short for the message */
 #define YELANSUB_BAD_LOG 15         /* a log does not begin with what its card has made */
 #define YELANSUB_BAD_AMOUNT 16      /* amount out of range, or not 0 where nothing is counted */
+#define YELANSUB_ABOVE_ONE 17       /* an amount above 1 on the way to version 1 */
 
 /* Kinds of step. */
 #define YELANSUB_STEP_COUNT 1          /* card, counter, amount */
@@ -280,6 +282,40 @@ struct yelansub_written {
  */
 struct yelansub_written yelansub_write_message(struct yelansub_message message,
                                                uint8_t *out, size_t out_len);
+
+/*
+ * Converts a log of version 1 messages, as a card with the older firmware has
+ * made it, to YELANSUB_MESSAGE_VERSION. The log holds messages end to end;
+ * their senders, and whether they are numbered in order, are not looked at. An
+ * increment gains the amount 1, and so 4 bytes; a clear changes its version
+ * only. An empty log converts to an empty one: 0, with length 0. Refused with, in
+ * this order,
+ *   6  the bytes are not messages of version 1 end to end, with nothing left
+ *      over,
+ *   5  out_len is below the length of the converted log, which is at most
+ *      log_len + log_len / 9.
+ * After a refusal no byte of out has changed. log and out are different buffers.
+ * What was written, yelansub_to_version_1 converts to the same bytes as before.
+ * Taken in the same order, the converted messages of a run of version 1 cards
+ * leave the replicas that theirs leave there.
+ */
+struct yelansub_written yelansub_to_version_2(const uint8_t *log, size_t log_len,
+                                              uint8_t *out, size_t out_len);
+
+/*
+ * The way back: from YELANSUB_MESSAGE_VERSION to version 1, for a log in which
+ * every amount is 1. An increment loses its amount, and so 4 bytes; a clear
+ * changes its version only. Refused with, in this order,
+ *   6   the bytes are not messages of YELANSUB_MESSAGE_VERSION end to end, with
+ *       nothing left over,
+ *   17  some amount is above 1,
+ *   5   out_len is below the length of the converted log, which is at most
+ *       log_len.
+ * Everything else is as in yelansub_to_version_2, which converts what was written
+ * to the same bytes as before.
+ */
+struct yelansub_written yelansub_to_version_1(const uint8_t *log, size_t log_len,
+                                              uint8_t *out, size_t out_len);
 
 struct yelansub_span {
     uint64_t start;

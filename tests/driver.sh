@@ -6,7 +6,7 @@ archive=${YELANSUB_ARCHIVE_DIR:-$root/target/staticlib}
 work=$(mktemp -d)
 trap 'rm -rf "$work"' EXIT
 
-for example in driver resend pump; do
+for example in driver resend pump convert; do
     gcc -std=c11 -O2 -Wall -Wextra -Werror -I"$root/include" "$root/examples/$example.c" \
         -L"$archive" -lyelansub -o "$work/$example"
     # What it printed is shown also where it has stopped with a failure.

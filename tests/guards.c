@@ -209,6 +209,19 @@ static int none_delivered(struct yelansub_delivered delivered, uint64_t number)
     return delivered.number == number && !delivered.deliveries;
 }
 
+/* The calls that convert a log, and the versions from and to which. */
+static const struct {
+    struct yelansub_written (*call)(const uint8_t *, size_t, uint8_t *, size_t);
+    unsigned from, to;
+} converting[] = {
+    {yelansub_to_version_2, YELANSUB_MESSAGE_VERSION_1, YELANSUB_MESSAGE_VERSION},
+    {yelansub_to_version_1, YELANSUB_MESSAGE_VERSION, YELANSUB_MESSAGE_VERSION_1},
+};
+enum { CONVERTING = sizeof converting / sizeof *converting };
+
+#define LAST_ANSWER YELANSUB_ABOVE_ONE /* the greatest number there is */
+static unsigned converted[CONVERTING][LAST_ANSWER + 1]; /* how often each of them gave each number */
+
 /* Null and a pointer to nothing, with length 0, for every buffer of every export. */
 static void no_memory(void)
 {
@@ -239,6 +252,17 @@ static void no_memory(void)
         HOLD(written.number == YELANSUB_SHORT_OUTPUT && !written.length);
         written = yelansub_write_message(no_message, p, 0);
         HOLD(written.number == YELANSUB_UNREADABLE && !written.length);
+        for (size_t of = 0; of < CONVERTING; of++) {
+            written = converting[of].call(p, 0, p, 0);
+            HOLD(written.number == YELANSUB_OK && !written.length);
+            uint8_t bytes[YELANSUB_CLEAR_BYTES(0)];
+            struct yelansub_message clear = message_of(converting[of].from, YELANSUB_MESSAGE_CLEAR, 0);
+            HOLD(put_message(bytes, &clear) == sizeof bytes);
+            written = converting[of].call(bytes, sizeof bytes, p, 0);
+            HOLD(written.number == YELANSUB_SHORT_OUTPUT && !written.length);
+            written = converting[of].call(p, 0, bytes, sizeof bytes);
+            HOLD(written.number == YELANSUB_OK && !written.length);
+        }
         struct yelansub_span span = yelansub_waiting(p, 0, 1);
         HOLD(span.start == 0 && span.length == 0);
         span = yelansub_waiting(p, 0, 0);
@@ -688,7 +712,79 @@ static void exact_logs(int at_end)
     }
 }
 
-/* Bytes of every length, good at the front or not, to take, read_message and waiting. */
+/* Converts a log into an output of this length; what it writes is the front of `due`. */
+static struct yelansub_written convert(size_t of, const uint8_t *bytes, size_t len, const uint8_t *due, size_t room,
+                                       int at_end)
+{
+    struct area l = area(len, at_end), o = area(room, at_end);
+    if (len > 0)
+        memcpy(in(&l), bytes, len);
+    keep(&l);
+    keep(&o);
+    struct yelansub_written written = converting[of].call(in(&l), len, in(&o), room);
+    HOLD(written.number <= LAST_ANSWER && written.length <= room && unchanged(&l));
+    converted[of][written.number]++;
+    if (written.number == YELANSUB_OK)
+        HOLD(only(&o, written.length) && memcmp(in(&o), due, written.length) == 0);
+    else
+        HOLD(!written.length && unchanged(&o));
+    drop(&l);
+    drop(&o);
+    return written;
+}
+
+/* An increment, a clear of every length and an increment, in both versions, every amount being 1: one byte of output
+   too few, none to spare, and more; cut anywhere, with bytes left over, and with another amount. */
+static void exact_conversions(int at_end)
+{
+    for (size_t entries = 0; entries <= YELANSUB_MOST_CARDS; entries++)
+        for (size_t of = 0; of < CONVERTING; of++) {
+            uint8_t log[2 * YELANSUB_INCREMENT_BYTES + YELANSUB_LONGEST_MESSAGE + YELANSUB_CLEAR_BYTES(0)];
+            uint8_t due[sizeof log], *at = log, *to = due;
+            size_t ends[3];
+            for (unsigned place = 0; place < 3; place++) {
+                struct yelansub_message m =
+                    place == 1 ? message_of(converting[of].from, YELANSUB_MESSAGE_CLEAR, entries)
+                               : message_of(converting[of].from, YELANSUB_MESSAGE_INCREMENT, 0);
+                m.sequence = 1 + any(YELANSUB_MAX); /* in no order */
+                m.amount = 1;                       /* put in an increment of version 2 alone */
+                at += put_message(at, &m);
+                ends[place] = (size_t)(at - log);
+                m.version = converting[of].to;
+                to += put_message(to, &m);
+            }
+            size_t len = ends[2], bytes = (size_t)(to - due);
+            doing = "the length of a converted log";
+            HOLD(converting[of].to == YELANSUB_MESSAGE_VERSION ? bytes == len + 8 : bytes + 8 == len);
+            doing = "convert a log";
+            for (size_t room = bytes - 1; room <= bytes + 2; room++) {
+                struct yelansub_written written = convert(of, log, len, due, room, at_end);
+                HOLD(written.number == (room < bytes ? YELANSUB_SHORT_OUTPUT : YELANSUB_OK));
+                HOLD(written.length == (room < bytes ? 0 : bytes));
+            }
+            doing = "convert a log that is cut";
+            HOLD(convert(of, log, 0, due, 0, at_end).number == YELANSUB_OK);
+            for (size_t cut = 0; cut < len; cut++) {
+                int whole = cut == 0 || cut == ends[0] || cut == ends[1];
+                HOLD(convert(of, log, cut, due, sizeof due, at_end).number ==
+                     (whole ? YELANSUB_OK : YELANSUB_UNREADABLE));
+            }
+            doing = "convert a log with bytes left over";
+            memcpy(at, log, YELANSUB_CLEAR_BYTES(0) - 1);
+            for (size_t more = 1; more < YELANSUB_CLEAR_BYTES(0); more++)
+                HOLD(convert(of, log, len + more, due, sizeof due, at_end).number == YELANSUB_UNREADABLE);
+            doing = "convert a log of the other version, or with another amount";
+            HOLD(convert(1 - of, log, len, due, sizeof due, at_end).number == YELANSUB_UNREADABLE);
+            if (converting[of].from == YELANSUB_MESSAGE_VERSION) {
+                at[-1] = 2; /* the last byte of the last message */
+                HOLD(convert(of, log, len, due, sizeof due, at_end).number == YELANSUB_ABOVE_ONE);
+                HOLD(convert(of, log, len, due, 0, at_end).number == YELANSUB_ABOVE_ONE);
+                HOLD(convert(of, log, len + 1, due, 0, at_end).number == YELANSUB_UNREADABLE);
+            }
+        }
+}
+
+/* Bytes of every length, good at the front or not, to take, read_message, waiting and the calls that convert. */
 static void odd_bytes(int at_end)
 {
     size_t len = YELANSUB_REPLICA_WORDS(YELANSUB_MOST_CARDS, 1);
@@ -737,6 +833,15 @@ static void odd_bytes(int at_end)
                 if (read.number == YELANSUB_OK)
                     HOLD(span.start == 0 && span.length == (q == 1 && !is_plain ? length : 0));
             }
+            doing = "converting odd bytes";
+            for (size_t of = 0; of < CONVERTING; of++) {
+                keep(&o);
+                written = converting[of].call(bytes, length, in(&o), length);
+                HOLD(written.number <= LAST_ANSWER && written.length <= length && unchanged(&m));
+                HOLD(written.number == YELANSUB_OK ? only(&o, written.length) : !written.length && unchanged(&o));
+                if (read.number == YELANSUB_OK)
+                    HOLD((written.number == YELANSUB_UNREADABLE) == (read.message.version != converting[of].from));
+            }
         }
         drop(&m);
         drop(&o);
@@ -746,7 +851,6 @@ static void odd_bytes(int at_end)
     drop(&w);
 }
 
-#define LAST_ANSWER YELANSUB_BAD_AMOUNT /* the greatest number there is */
 static unsigned answered[LAST_ANSWER + 1]; /* how often a step gave each number */
 
 /* The last of the kinds of step, which are numbered from 1. */
@@ -934,19 +1038,24 @@ static void exactly(const unsigned *met, const unsigned *given, size_t len)
 }
 
 /* Every number that a step can give was given, and no other. YELANSUB_EXHAUSTED needs YELANSUB_MAX messages or units of
-   one card first. The same of delivering what waits. */
+   one card first. The same of delivering what waits and of converting. */
 static void all_answers(void)
 {
     static const unsigned given[] = {YELANSUB_OK, YELANSUB_BAD_COUNTER, YELANSUB_BAD_CARD, YELANSUB_BAD_KIND,
                                      YELANSUB_NOTHING_WAITING, YELANSUB_LOG_FULL, YELANSUB_BAD_AMOUNT};
     static const unsigned to_pump[] = {YELANSUB_OK, YELANSUB_BAD_REPLICA, YELANSUB_BAD_ROW, YELANSUB_BAD_SIZES,
                                        YELANSUB_BAD_LOG};
+    /* The last of them on the way to version 1 only. */
+    static const unsigned to_convert[] = {YELANSUB_OK, YELANSUB_SHORT_OUTPUT, YELANSUB_UNREADABLE, YELANSUB_ABOVE_ONE};
     doing = "answers of steps";
     exactly(answered, given, sizeof given / sizeof *given);
     HOLD(values > 0);
     doing = "answers of deliveries";
     exactly(pumped, to_pump, sizeof to_pump / sizeof *to_pump);
     HOLD(passed_over > 0);
+    doing = "answers of conversions";
+    exactly(converted[0], to_convert, 3);
+    exactly(converted[1], to_convert, 4);
 }
 
 int main(void)
@@ -966,6 +1075,7 @@ int main(void)
                 exact_buffers(cards, YELANSUB_MOST_COUNTERS, making[of], at_end);
             }
         exact_logs(at_end);
+        exact_conversions(at_end);
         odd_bytes(at_end);
         for (unsigned round = 0; round < 300; round++)
             runs(1 + (unsigned)any(4), 1 + (unsigned)any(3), any(3) ? 400 : any(80), any(50), at_end);

@@ -18,7 +18,7 @@ if [ -n "$bad" ]; then
 fi
 
 printf '#include "yelansub.h"\n' | gcc -std=c11 -I"$root/include" -E -P - |
-    tr -s ' \n' '  ' | grep -o 'yelansub_[a-z_]*(' | tr -d '(' | sort -u > "$work/declared"
+    tr -s ' \n' '  ' | grep -o 'yelansub_[a-z_0-9]*(' | tr -d '(' | sort -u > "$work/declared"
 if ! diff "$work/declared" "$work/defined" >&2; then
     echo "include/yelansub.h (<) and the archive's exports (>) differ" >&2
     exit 1

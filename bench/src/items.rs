@@ -5,10 +5,11 @@ use std::hint::black_box;
 use std::ops::Range;
 
 use yelansub_reference::chassis::{self, Buffers, Step};
+use yelansub_reference::convert;
 use yelansub_reference::differential::messages::form_of;
 use yelansub_reference::library;
 use yelansub_reference::limits::*;
-use yelansub_reference::message::{self, Body, Entries, Entry, Message, CURRENT};
+use yelansub_reference::message::{self, Body, Entries, Entry, Message, Version, CURRENT, PLAIN};
 use yelansub_reference::random::Random;
 use yelansub_reference::replica::{self, entry_at, increments_at, messages_at};
 
@@ -153,6 +154,42 @@ pub fn messages() -> Vec<Item> {
         write("increment", increments),
         write(clear, clears),
     ]
+}
+
+/// A log in the other version; a call is one message of it. Beside it, the log copied.
+pub fn conversions() -> Vec<Item> {
+    let item = |name: String, make, library: Work, reference: Work| Item {
+        name,
+        calls: MADE as u64,
+        long: false,
+        make,
+        sides: vec![("library", library), ("reference", reference), (COPY, copy_log as Work)],
+    };
+    let both = |name: &str, [plain, current]: [fn() -> State; 2]| {
+        let up = (library_to_version_2 as Work, reference_to_version_2 as Work);
+        let down = (library_to_version_1 as Work, reference_to_version_1 as Work);
+        [
+            item(format!("to version 2, {name}"), plain, up.0, up.1),
+            item(format!("to version 1, {name}"), current, down.0, down.1),
+        ]
+    };
+    let clears = &format!("clears of {CARDS}");
+    [
+        both("increments", [|| log(PLAIN, no_clear), || log(CURRENT, no_clear)]),
+        both(clears, [|| log(PLAIN, full_clear), || log(CURRENT, full_clear)]),
+        both("one clear in eight", [|| log(PLAIN, some_clear), || log(CURRENT, some_clear)]),
+    ]
+    .into_iter()
+    .flatten()
+    .collect()
+}
+
+/// The side that copies a log of the same length.
+pub const COPY: &str = "copy";
+
+/// Bytes of the log that is converted.
+pub fn log_bytes(state: &State) -> usize {
+    state.logs.len()
 }
 
 /// Runs of so many steps, and of none, which only writes the fresh replicas.
@@ -341,7 +378,7 @@ fn steps(len: usize, clear: fn(u32, u32) -> Step) -> State {
     state
 }
 
-/// Messages that a card has made before what waits is delivered.
+/// Messages that a card has made before what waits is delivered, and before its log is converted.
 const MADE: usize = 1_000;
 /// More than wait anywhere.
 const ALL: u64 = u64::MAX;
@@ -428,6 +465,46 @@ fn in_rounds(cards: usize, made: &[Step], most: u64) -> Vec<Step> {
     }
     delivered.truncate(most.min(delivered.len() as u64) as usize);
     delivered
+}
+
+/// A log of this version whose counts are by one. Of each message `entries` says whether it is a
+/// clear, and of how many entries.
+fn log(version: Version, entries: fn(&mut Random) -> Option<usize>) -> State {
+    let mut random = Random::new(5);
+    let mut state = blank();
+    for place in 0..MADE as u64 {
+        let body = match entries(&mut random) {
+            None => Body::Increment {
+                p: 1 + place,
+                start: random.percent(10),
+                amount: version.has_amount.into(),
+            },
+            Some(len) => {
+                let mut entries = Entries::new();
+                (0..len as u32).for_each(|card| entries.push(Entry { card, p: 99, c: 399 }));
+                Body::Clear(entries)
+            }
+        };
+        let counter = random.below(COUNTERS as u64) as u32;
+        let message = Message { version, sender: 1, sequence: 1 + place, counter, body };
+        let mut out = [0; LONGEST_MESSAGE];
+        let length = message::write(&message, &mut out).expect("in range");
+        state.logs.extend(&out[..length]);
+    }
+    state.out = vec![0; 2 * state.logs.len()];
+    state
+}
+
+fn no_clear(_: &mut Random) -> Option<usize> {
+    None
+}
+
+fn full_clear(_: &mut Random) -> Option<usize> {
+    Some(CARDS)
+}
+
+fn some_clear(random: &mut Random) -> Option<usize> {
+    (random.below(8) == 0).then(|| random.between(0, CARDS as u64) as usize)
 }
 
 // The calls. Both sides are real calls: nothing is inlined into the loop.
@@ -574,6 +651,45 @@ fn reference_deliver_one_by_one(s: &mut State) {
     for _ in 0..ONE_BY_ONE {
         reference_deliver(s);
     }
+}
+
+/// The whole log in one call.
+fn library_to_version_2(s: &mut State) {
+    black_box(library::to_version_2(&s.logs, &mut s.out));
+}
+
+#[inline(never)]
+fn reference_to_version_2(s: &mut State) {
+    let _ = black_box(convert::to_version_2(&s.logs, &mut s.out));
+}
+
+fn library_to_version_1(s: &mut State) {
+    black_box(library::to_version_1(&s.logs, &mut s.out));
+}
+
+#[inline(never)]
+fn reference_to_version_1(s: &mut State) {
+    let _ = black_box(convert::to_version_1(&s.logs, &mut s.out));
+}
+
+#[inline(never)]
+fn copy_log(s: &mut State) {
+    s.out[..s.logs.len()].copy_from_slice(&s.logs);
+    black_box(&mut s.out);
+}
+
+/// The library and the reference write the same log, and it is another than the copied one.
+pub fn conversions_agree(item: &Item) -> bool {
+    let written: Vec<Vec<u8>> = item
+        .sides
+        .iter()
+        .map(|(_, work)| {
+            let mut state = (item.make)();
+            work(&mut state);
+            state.out
+        })
+        .collect();
+    matches!(&written[..], [library, reference, copy] if library == reference && library != copy)
 }
 
 /// What every side of an item leaves behind, for a check that all did the same work.

@@ -35,6 +35,16 @@ fn everything() {
     for item in items::messages() {
         print(&item, &least(&item, 3_000));
     }
+    println!("\nA log in the other version, nanoseconds a message:");
+    let conversions = items::conversions();
+    let times: Vec<Vec<Duration>> = conversions.iter().map(|item| least(item, 3_000)).collect();
+    for (item, times) in conversions.iter().zip(&times) {
+        print(item, times);
+    }
+    println!("\nThe same, millions of its bytes a second:");
+    for (item, times) in conversions.iter().zip(&times) {
+        print_rate(item, times);
+    }
     println!();
     let runs = items::runs();
     let times: Vec<Vec<Duration>> = runs.iter().map(|run| least(run, rounds_of(run))).collect();
@@ -87,6 +97,9 @@ fn check() {
     for item in items::messages() {
         assert!(items::messages_agree(&mut (item.make)()), "{}: the sides differ", item.name);
     }
+    for item in items::conversions() {
+        assert!(items::conversions_agree(&item), "{}: the sides differ", item.name);
+    }
 }
 
 /// The least time of a batch, for each side; the sides take turns, and so does the first place.
@@ -118,6 +131,15 @@ fn print(item: &Item, times: &[Duration]) {
     println!();
 }
 
+fn print_rate(item: &Item, times: &[Duration]) {
+    let bytes = items::log_bytes(&(item.make)()) as f64;
+    print!("{:38}", item.name);
+    for ((name, _), time) in item.sides.iter().zip(times) {
+        print!(" {name} {:8.0}", bytes / time.as_secs_f64() / 1e6);
+    }
+    println!();
+}
+
 /// The one function whose inside callgrind counts.
 #[no_mangle]
 #[inline(never)]
@@ -128,6 +150,7 @@ extern "Rust" fn bench_work(state: &mut State, work: Work) {
 fn all() -> Vec<Item> {
     let mut all = items::calls();
     all.extend(items::messages());
+    all.extend(items::conversions());
     all.extend(items::runs());
     all.extend(items::deliveries().into_iter().flat_map(|(item, before)| [item, before]));
     all.push(items::none_waiting());

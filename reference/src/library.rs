@@ -168,6 +168,18 @@ mod raw {
         ) -> Taken;
         pub fn yelansub_read_message(bytes: *const u8, bytes_len: usize) -> MessageReading;
         pub fn yelansub_write_message(message: Message, out: *mut u8, out_len: usize) -> Written;
+        pub fn yelansub_to_version_2(
+            log: *const u8,
+            log_len: usize,
+            out: *mut u8,
+            out_len: usize,
+        ) -> Written;
+        pub fn yelansub_to_version_1(
+            log: *const u8,
+            log_len: usize,
+            out: *mut u8,
+            out_len: usize,
+        ) -> Written;
         pub fn yelansub_waiting(log: *const u8, log_len: usize, q: u64) -> Span;
         pub fn yelansub_run(
             cards: u64,
@@ -260,6 +272,14 @@ pub fn read_message(bytes: &[u8]) -> MessageReading {
 
 pub fn write_message(message: Message, out: &mut [u8]) -> Written {
     unsafe { raw::yelansub_write_message(message, lend_mut(out), out.len()) }
+}
+
+pub fn to_version_2(log: &[u8], out: &mut [u8]) -> Written {
+    unsafe { raw::yelansub_to_version_2(lend(log), log.len(), lend_mut(out), out.len()) }
+}
+
+pub fn to_version_1(log: &[u8], out: &mut [u8]) -> Written {
+    unsafe { raw::yelansub_to_version_1(lend(log), log.len(), lend_mut(out), out.len()) }
 }
 
 pub fn waiting(log: &[u8], q: u64) -> Span {

@@ -60,9 +60,10 @@ pub const BAD_ROW: u64 = 2;
 pub const BAD_COUNTER: u64 = 3;
 /// Own N = MAX, or own C + w above MAX.
 pub const EXHAUSTED: u64 = 4;
-/// Output shorter than the message.
+/// Output shorter than the message, or than the converted log.
 pub const SHORT_OUTPUT: u64 = 5;
-/// Bytes do not read, or a message to write is out of range.
+/// Bytes do not read, a message to write is out of range, or a log is not messages of its version
+/// end to end.
 pub const UNREADABLE: u64 = 6;
 /// Sender or entry card not below r, or the sender is the own card.
 pub const BAD_CARD: u64 = 7;
@@ -82,3 +83,5 @@ pub const LOG_FULL: u64 = 14;
 pub const BAD_LOG: u64 = 15;
 /// Amount out of range, or not 0 in a step that does not count.
 pub const BAD_AMOUNT: u64 = 16;
+/// A w above 1 on the way to version 1.
+pub const ABOVE_ONE: u64 = 17;

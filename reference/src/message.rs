@@ -172,6 +172,13 @@ pub fn read_front(bytes: &[u8]) -> Option<Message> {
     read_if(bytes, CURRENT, |_| true)
 }
 
+/// The same of a message of this version. Both name `read_if` themselves, so that each has its own
+/// copy, the first with its version known.
+#[inline]
+pub fn read_front_in(bytes: &[u8], version: Version) -> Option<Message> {
+    read_if(bytes, version, |_| true)
+}
+
 /// The message of a card that `bytes` are, no byte more; otherwise they do not read (6).
 pub fn read(bytes: &[u8]) -> Option<Message> {
     read_if(bytes, CURRENT, |length| length == bytes.len())
@@ -182,6 +189,20 @@ pub fn read_alone(bytes: &[u8]) -> Option<Message> {
     let number = u32::from_be_bytes(*bytes.first_chunk()?);
     let version = VERSIONS.into_iter().find(|version| version.number == number)?;
     read_if(bytes, version, |length| length == bytes.len())
+}
+
+/// Bytes of the clear at the front of `bytes`, which begin with a message that reads; none of an
+/// increment.
+#[inline]
+pub fn clear_length(bytes: &[u8]) -> Option<usize> {
+    let is_clear = int(bytes, KIND_AT) == MESSAGE_CLEAR;
+    is_clear.then(|| clear_bytes(int(bytes, HEADER_BYTES) as usize))
+}
+
+/// Makes written bytes say this version.
+#[inline]
+pub fn set_version(bytes: &mut [u8], version: Version) {
+    set_int(bytes, VERSION_AT, version.number);
 }
 
 #[inline]

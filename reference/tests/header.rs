@@ -1,7 +1,7 @@
 //! The constants of `limits` are those of `include/yelansub.h`, and the tests' tables of answers
 //! leave out none of its numbers.
 
-use yelansub_reference::differential::{calls, messages, pending, runs};
+use yelansub_reference::differential::{calls, convert, messages, pending, runs};
 use yelansub_reference::limits;
 
 const HEADER: &str = include_str!("../../include/yelansub.h");
@@ -18,7 +18,7 @@ const SIZES: &[(&str, u64)] = named! {
 };
 const ANSWERS: &[(&str, u64)] = named! {
     OK BAD_REPLICA BAD_ROW BAD_COUNTER EXHAUSTED SHORT_OUTPUT UNREADABLE BAD_CARD REPEATED EARLY
-    IMPLAUSIBLE BAD_SIZES BAD_KIND NOTHING_WAITING LOG_FULL BAD_LOG BAD_AMOUNT
+    IMPLAUSIBLE BAD_SIZES BAD_KIND NOTHING_WAITING LOG_FULL BAD_LOG BAD_AMOUNT ABOVE_ONE
 };
 /// What the header computes from these. Both sides try the library with it.
 const COMPUTED: [&str; 3] = ["REPLICA_WORDS", "CLEAR_BYTES", "LONGEST_MESSAGE"];
@@ -46,8 +46,9 @@ fn the_header_has_the_same_numbers() {
 fn every_answer_is_given_by_some_call() {
     let calls = [calls::OPEN, calls::READ, calls::COUNTED, calls::CLEARED, calls::TAKE].concat();
     let others = [messages::READ, messages::WRITE, runs::RUN, runs::STEP, pending::CALL].concat();
+    let converted = convert::CONVERTING.map(|call| call.numbers).concat();
     for (name, number) in ANSWERS {
-        assert!(calls.contains(number) || others.contains(number), "{name}");
+        assert!([&calls, &others, &converted].iter().any(|of| of.contains(number)), "{name}");
     }
 }
 

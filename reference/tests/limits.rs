@@ -4,8 +4,11 @@
 use std::fmt::Debug;
 
 use yelansub_reference::chassis::{self, Answer, Buffers, Step};
+use yelansub_reference::differential::convert::{Converting, CONVERTING};
+use yelansub_reference::differential::convert::{TO_VERSION_1, TO_VERSION_2};
 use yelansub_reference::differential::generate::{Draft, AMOUNTS, STEP_AMOUNTS};
-use yelansub_reference::differential::{cleared, delivered, messages, number, reading, taken};
+use yelansub_reference::differential::{cleared, delivered, messages, number};
+use yelansub_reference::differential::{reading, taken, written};
 use yelansub_reference::differential::{Sending, CLEAR, COUNT, READ_AND_CLEAR, SENDING};
 use yelansub_reference::limits::*;
 use yelansub_reference::replica::{self, entry_at, increments_at, messages_at};
@@ -75,6 +78,20 @@ fn take(words: &mut Vec<u64>, bytes: &[u8]) -> u64 {
     agree(&bytes, [answer, due], answer.number, [&theirs, &ours], &before);
     *words = theirs;
     answer.number
+}
+
+/// With an output of `room` bytes; gives the number, and what was written.
+fn convert(call: &Converting, log: &[u8], room: usize) -> (u64, Vec<u8>) {
+    let (before, lent) = (vec![9; room], log.to_vec());
+    let (mut ours, mut theirs) = (before.clone(), before.clone());
+    let answer = (call.theirs)(&lent, &mut theirs);
+    let due = written((call.ours)(log, &mut ours));
+    let what = (call.name, log, room);
+    agree(&what, [answer, due], answer.number, [&theirs, &ours], &before);
+    assert_eq!(lent, log, "{what:?}");
+    assert_eq!(theirs[answer.length..], before[answer.length..], "{what:?}");
+    theirs.truncate(answer.length);
+    (answer.number, theirs)
 }
 
 /// The run's number and the steps' answers; the run over records is the same.
@@ -1225,5 +1242,212 @@ fn links_without_room_for_the_units() {
         lent.replica(2)[increments_at(0)] = 9;
         assert_eq!(lent.deliver_pending(u64::MAX), (OK, 10 + taken), "{room}");
         assert_eq!(lent.replica(1)[messages_at(3, 0)], taken);
+    }
+}
+
+// ---- a log in the other version
+
+/// The messages' bytes in this version, end to end; every amount is 1.
+fn log_of(version: u32, drafts: &[Draft]) -> Vec<u8> {
+    drafts.iter().flat_map(|draft| Draft { version, ..draft.clone() }.bytes()).collect()
+}
+
+/// The bytes of the drafts as they are.
+fn end_to_end(drafts: &[Draft]) -> Vec<u8> {
+    drafts.iter().flat_map(Draft::bytes).collect()
+}
+
+/// Lists of messages that convert: none, one of each kind and length, and several.
+fn lists() -> Vec<Vec<Draft>> {
+    let largest =
+        Draft { sender: 15, sequence: MAX, counter: 63, p: MAX, start: 1, ..next_of_card_0() };
+    let mut lists = vec![Vec::new(), vec![next_of_card_0()], vec![largest]];
+    for entries in 0..=MOST_CARDS as u32 {
+        let list: Vec<_> = (0..entries).map(|card| (card, 1, MAX - u64::from(card))).collect();
+        lists.push(vec![next_clear_of_card_0(&list)]);
+    }
+    let singly = lists.concat();
+    lists.push(vec![next_of_card_0(); 40]);
+    lists.push(vec![next_clear_of_card_0(&[]); 40]);
+    lists.push([&singly[..], &singly].concat());
+    lists.push(singly.into_iter().flat_map(|draft| [draft, next_of_card_0()]).collect());
+    lists
+}
+
+/// The bytes of both versions, each made from the fields: short by one, by more, exact, and longer.
+#[test]
+fn outputs_of_a_converted_log() {
+    for list in lists() {
+        let increments = list.iter().filter(|draft| draft.kind == MESSAGE_INCREMENT).count();
+        let [plain, current] = [MESSAGE_VERSION_1, MESSAGE_VERSION].map(|of| log_of(of, &list));
+        assert_eq!(current.len(), plain.len() + 4 * increments);
+        for (call, log, due) in [(TO_VERSION_2, &plain, &current), (TO_VERSION_1, &current, &plain)]
+        {
+            for room in [due.len(), due.len() + 1, due.len() + 4, 2 * due.len() + 9] {
+                assert_eq!(convert(&call, log, room), (OK, due.clone()), "{} {room}", call.name);
+            }
+            for short in [1, 4, 27, due.len()].into_iter().filter(|_| !due.is_empty()) {
+                let room = due.len() - short;
+                assert_eq!(convert(&call, log, room), (SHORT_OUTPUT, Vec::new()), "{room}");
+            }
+        }
+    }
+    // The room that is enough for every log.
+    let log = log_of(MESSAGE_VERSION_1, &vec![next_of_card_0(); 40]);
+    let enough = log.len() + log.len() / 9;
+    assert_eq!(convert(&TO_VERSION_2, &log, enough).0, OK);
+    assert_eq!(convert(&TO_VERSION_2, &log, enough - 1).0, SHORT_OUTPUT);
+}
+
+#[test]
+fn an_empty_log_converts_to_an_empty_one() {
+    for call in CONVERTING {
+        for room in [0, 1, LONGEST_MESSAGE] {
+            assert_eq!(convert(&call, &[], room), (OK, Vec::new()), "{} {room}", call.name);
+        }
+    }
+}
+
+/// The number of a log that is not one of messages of its version, or has a w above 1: whether there
+/// is room does not matter.
+fn refused(call: &Converting, log: &[u8], due: u64) {
+    for room in [0, 1, log.len(), 2 * log.len() + 9] {
+        let answer = convert(call, log, room);
+        assert_eq!(answer, (due, Vec::new()), "{}, {room}: {log:?}", call.name);
+    }
+}
+
+#[test]
+fn logs_that_end_with_a_message() {
+    for list in lists() {
+        for call in CONVERTING {
+            let log = log_of(call.from.number, &list);
+            for cut in [1, 4, 27].into_iter().filter(|_| !list.is_empty()) {
+                refused(&call, &log[..log.len() - cut], UNREADABLE);
+            }
+            for draft in [next_of_card_0(), next_clear_of_card_0(&[(0, 1, 1)])] {
+                let front = log_of(call.from.number, &[draft]);
+                for more in 1..front.len() {
+                    refused(&call, &[&log[..], &front[..more]].concat(), UNREADABLE);
+                }
+            }
+            for more in [1, 4, 27, 28, 36, 40] {
+                refused(&call, &[&log[..], &vec![0; more]].concat(), UNREADABLE);
+            }
+        }
+    }
+    // An increment with the other version's length.
+    for call in CONVERTING {
+        let mut log = log_of(call.to.number, &[next_of_card_0(), next_of_card_0()]);
+        log[3] = call.from.number as u8;
+        refused(&call, &log, UNREADABLE);
+    }
+}
+
+/// Three messages, of which this one takes the place: first, in the middle, and last.
+fn in_each_place(version: u32, draft: &Draft) -> [Vec<u8>; 3] {
+    [0, 1, 2].map(|at| {
+        let clear = next_clear_of_card_0(&[(0, 1, 1)]);
+        let list = [next_of_card_0(), clear, next_of_card_0()];
+        let mut list = list.map(|draft| Draft { version, ..draft });
+        list[at] = draft.clone();
+        end_to_end(&list)
+    })
+}
+
+/// Each field one past its edge, in any one message of a log.
+#[test]
+fn logs_with_a_message_that_does_not_read() {
+    let cards = MOST_CARDS as u32;
+    for call in CONVERTING {
+        let version = call.from.number;
+        let next = || Draft { version, ..next_of_card_0() };
+        let clear = |list: &[(u32, u64, u64)]| Draft { version, ..next_clear_of_card_0(list) };
+        let one_more: Vec<_> = (0..=cards).map(|card| (card, 1, 1)).collect();
+        let wrong = [
+            Draft { version: call.to.number, ..next() },
+            Draft { version: call.to.number, ..clear(&[]) },
+            Draft { version: 0, ..next() },
+            Draft { version: MESSAGE_VERSION + 1, ..clear(&[]) },
+            Draft { kind: 0, ..clear(&[]) },
+            Draft { kind: MESSAGE_CLEAR + 1, ..clear(&[]) },
+            Draft { sender: cards, ..next() },
+            Draft { sequence: 0, ..next() },
+            Draft { sequence: MAX + 1, ..next() },
+            Draft { counter: MOST_COUNTERS as u32, ..next() },
+            Draft { p: 0, ..next() },
+            Draft { p: MAX + 1, ..next() },
+            Draft { start: 2, ..next() },
+            clear(&one_more),
+            clear(&[(cards, 1, 1)]),
+            clear(&[(0, 0, 1)]),
+            clear(&[(0, 2, 1)]),
+            clear(&[(0, 1, MAX + 1)]),
+            clear(&[(1, 1, 1), (1, 1, 1)]),
+            clear(&[(1, 1, 1), (0, 1, 1)]),
+        ];
+        for log in wrong.iter().flat_map(|draft| in_each_place(version, draft)) {
+            refused(&call, &log, UNREADABLE);
+        }
+    }
+}
+
+/// They read alone, whatever their sender and sequence, and so they convert.
+#[test]
+fn senders_and_sequences_of_a_log_are_not_looked_at() {
+    let sequences = [MAX, 1, 1, 7, MAX - 1, 2];
+    let numbered = (0..2 * MOST_CARDS).map(|at| Draft {
+        sender: (at * 7 % MOST_CARDS) as u32,
+        sequence: sequences[at % sequences.len()],
+        counter: (at * 11 % MOST_COUNTERS) as u32,
+        ..if at % 3 == 0 { next_clear_of_card_0(&[(15, MAX, MAX)]) } else { next_of_card_0() }
+    });
+    let list: Vec<Draft> = numbered.collect();
+    for call in CONVERTING {
+        let [log, due] = [call.from, call.to].map(|version| log_of(version.number, &list));
+        assert_eq!(convert(&call, &log, due.len()), (OK, due), "{}", call.name);
+    }
+}
+
+/// Only 1 converts. What is no amount does not read, and 6 comes before 17.
+#[test]
+fn amounts_of_a_log() {
+    for amount in STEP_AMOUNTS.into_iter().chain([2, 3, 256, 257, 65_534]) {
+        for start in [0, 1] {
+            let draft = Draft { amount, start, ..next_of_card_0() };
+            for log in in_each_place(MESSAGE_VERSION, &draft) {
+                match amount {
+                    1 => assert_eq!(convert(&TO_VERSION_1, &log, log.len()).0, OK),
+                    0 | 65_536.. => refused(&TO_VERSION_1, &log, UNREADABLE),
+                    _ => refused(&TO_VERSION_1, &log, ABOVE_ONE),
+                }
+                refused(&TO_VERSION_2, &log, UNREADABLE);
+            }
+        }
+    }
+}
+
+/// Every set of causes, the messages that are wrong in every order.
+#[test]
+fn refusals_of_a_conversion_in_their_order() {
+    for [unread, above, other] in [[0, 1, 2], [0, 2, 1], [1, 0, 2], [1, 2, 0], [2, 0, 1], [2, 1, 0]]
+    {
+        let list = |version: u32, has_unread: bool, has_above: bool| {
+            let mut list = [(); 3].map(|()| Draft { version, ..next_of_card_0() });
+            list[unread].start = if has_unread { 2 } else { 0 };
+            list[above].amount = if has_above { 2 } else { 1 };
+            list[other] = Draft { version, ..next_clear_of_card_0(&[]) };
+            end_to_end(&list)
+        };
+        for (has, due) in causes([UNREADABLE, ABOVE_ONE, SHORT_OUTPUT]) {
+            let log = list(MESSAGE_VERSION, has[0], has[1]);
+            let room = 2 * PLAIN_INCREMENT_BYTES + clear_bytes(0) - usize::from(has[2]);
+            assert_eq!(convert(&TO_VERSION_1, &log, room).0, due, "{has:?}, {unread} {above}");
+        }
+        for (has, due) in causes([UNREADABLE, SHORT_OUTPUT]) {
+            let log = list(MESSAGE_VERSION_1, has[0], false);
+            let room = 2 * INCREMENT_BYTES + clear_bytes(0) - usize::from(has[1]);
+            assert_eq!(convert(&TO_VERSION_2, &log, room).0, due, "{has:?}, {unread}");
+        }
     }
 }

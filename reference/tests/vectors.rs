@@ -1,6 +1,7 @@
 //! The library and the reference against bytes made by rpcgen and libtirpc from
 //! `include/message.x` (`vectors/regenerate.sh` makes them again).
 
+use yelansub_reference::differential::convert::{TO_VERSION_1, TO_VERSION_2};
 use yelansub_reference::differential::{messages, taken};
 use yelansub_reference::library;
 use yelansub_reference::limits::*;
@@ -237,4 +238,32 @@ fn every_flipped_bit_and_every_other_length_of_the_vectors_agrees() {
     }
     println!("{unreadable} changed messages did not read");
     assert!(unreadable > 10_000);
+}
+
+/// The vectors that are one message in both versions, end to end in each: by one where it counts.
+#[test]
+fn the_log_of_one_version_converts_to_that_of_the_other() {
+    let list = vectors();
+    let is_by_one = |vector: &&Vector| match vector.message.body {
+        Body::Increment { amount, .. } => amount == 1,
+        Body::Clear(_) => true,
+    };
+    let (mut current, mut plain, mut many) = (Vec::new(), Vec::new(), [0, 0]);
+    for vector in list.iter().filter(|v| v.message.version == CURRENT).filter(is_by_one) {
+        let plain_message = vector.message.plain();
+        if let Some(other) = list.iter().find(|other| other.message == plain_message) {
+            many[usize::from(matches!(vector.message.body, Body::Clear(_)))] += 1;
+            current.extend(&vector.bytes);
+            plain.extend(&other.bytes);
+        }
+    }
+    assert!(many[0] >= 5 && many[1] > 100, "{many:?} vectors in both versions");
+    assert_eq!(current.len(), plain.len() + 4 * many[0]);
+    for (call, log, due) in [(TO_VERSION_2, &plain, &current), (TO_VERSION_1, &current, &plain)] {
+        let (mut ours, mut theirs) = (vec![0; due.len()], vec![0; due.len()]);
+        assert_eq!((call.ours)(log, &mut ours), Ok(due.len()), "{}", call.name);
+        let answer = (call.theirs)(log, &mut theirs);
+        assert_eq!((answer.number, answer.length), (OK, due.len()), "{}", call.name);
+        assert!(ours == *due && theirs == *due, "{}", call.name);
+    }
 }

@@ -19,15 +19,15 @@ use Rattle.protocol.specs.Alone.{Turns, no-turns, belongs-by-turns, outline, ro
 use Rattle.protocol.specs.AloneLedgers.{same-holds, own-waits}
 use Rattle.protocol.specs.AloneRuns.{RunsBeside, fresh-beside, own-done, other-done, room-within}
 use Rattle.protocol.specs.AcceptanceLaws.{count-cong}
-use Rattle.wire.specs.Message.{clear-length, message-bytes}
+use Rattle.protocol.specs.OwnUnits.{own-C-is}
+use Rattle.wire.specs.Message.{clear-length, message-bytes, log-bytes}
 use Rattle.replica_model.specs.Layout.{replica-length, C-of, N-of}
 use Rattle.replica_model.specs.declared.Reading.{Reading}
 use Rattle.replica_model.specs.Calls.{left-checks, read-on}
 use Rattle.replica_model.specs.Format.{on-wire, size-of}
 use Rattle.replica_model.specs.FormatLaws.{on-wire-length}
-use Rattle.chassis_model.specs.LogLaws.{log-bytes, free-place}
+use Rattle.chassis_model.specs.LogLaws.{free-place}
 use Rattle.chassis_model.specs.Numbered.{numbered, wire-log, length-numbered}
-use Rattle.chassis_model.specs.OwnUnits.{own-C-is}
 use Rattle.chassis_model.specs.Run.{Making, Action, Make, Deliver, Nothing, Step, action-of, amount-fits, counted, State, replica-of, step-on, state-after, answers-of, numbers-in, values-in, sizes-right, run-on}
 use Rattle.chassis_model.specs.Answers.{fresh-state, message-size, step-size, due-checks, value-asked}
 use Rattle.chassis_model.specs.Ledger.{ledger-action, ledger-step, accepted-of, ledger-reading}

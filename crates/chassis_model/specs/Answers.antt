@@ -30,8 +30,8 @@ step-size (ledger.deliver i s) e = 0
 abbrev pub message-size : ℕ → Making → ℕ → ℕ → Ledger → ℕ
 message-size r m i q l = step-size (ledger-action (Make m i q)) (count-below r (λ j. holds i j l))
 
--- 3, 16 and 4, of a card that is there, has made N messages and counted C; and then the number `full` where the message has no room. `fits` says that the amount may be
--- what it is
+-- 3, 16 and 4, of a card that is there, has made N messages and counted C; and then the number `full` where the message has no room. `fits` is the step's
+-- `amount-fits`
 abbrev pub maker-checks : ℕ → ℕ → Making → Bool → ℕ → ℕ → Bool → ℕ → List Check
 maker-checks k q m fits N C room full =
     or-else (ltb q k) bad-counter ∷ or-else (fits && asked m) bad-amount ∷ left-checks N C (counted m) ++ (or-else room full ∷ [])

@@ -12,12 +12,12 @@ use Rattle.protocol.specs.Chassis.{fresh-chassis}
 use Rattle.protocol.specs.Limits.{MAX}
 use Rattle.protocol.specs.OwnBounded.{fresh-bounded}
 use Rattle.protocol.specs.Theorem.{fresh-invariant}
+use Rattle.wire.specs.Message.{log-bytes}
 use Rattle.replica_model.specs.Layout.{replica-length, fresh-words}
 use Rattle.replica_model.specs.LayoutLaws.{fresh-shows}
 use Rattle.chassis_model.specs.ListParts.{part}
 use Rattle.chassis_model.specs.ListPartsLaws.{part-room, part-front}
 use Rattle.chassis_model.specs.Run.{replica-of, log-of, fresh-replicas}
-use Rattle.chassis_model.specs.LogLaws.{log-bytes}
 use Rattle.chassis_model.specs.Numbered.{numbered, wire-log}
 pub use Rattle.chassis_model.specs.Answers.{fresh-state}
 use Rattle.chassis_model.specs.InStep.{Sizes, Heads, CardsShow}

@@ -36,7 +36,6 @@ pub mod QuietExamples
 pub mod ListPartsLaws
 pub mod LogLaws
 pub mod Numbered
-pub mod OwnUnits
 -- The cards beside the theory's chassis and ledgers; the two moves; what a card reads, sends and takes.
 pub mod InStep
 pub mod Moves

@@ -15,7 +15,7 @@ use Rattle.protocol.specs.Limits.{most-cards}
 use Rattle.protocol.specs.Cases.{by-test}
 use Rattle.protocol.specs.Lists.{places-more}
 use Rattle.wire.specs.declared.Message.{Message}
-use Rattle.wire.specs.Message.{version-2, no-message, message-bytes, message-length, clear-kind, in-range, called-length, front-length, over, shortest-message}
+use Rattle.wire.specs.Message.{version-2, no-message, message-bytes, message-length, clear-kind, in-range, called-length, front-length, log-bytes, over, shortest-message}
 use Rattle.wire.specs.Claims.{message-bytes-length, front-of-message}
 use Rattle.chassis_model.specs.Log.{waiting-part, end-of}
 
@@ -27,11 +27,6 @@ pub record Readable (m : Message) : Type 0 where
 
 abbrev pub AllReadable : List Message → Type 0
 AllReadable ms = (n : ℕ) → n < length ms → Readable (getD ms n no-message)
-
--- the bytes of messages, one after the other
-unfoldable pub log-bytes : List Message → List ℕ
-log-bytes [] = []
-log-bytes (m ∷ ms) = message-bytes m ++ log-bytes ms
 
 -- ---- the bytes of messages
 

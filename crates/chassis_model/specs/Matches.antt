@@ -8,12 +8,13 @@ use Rattle.protocol.specs.Tables.{put, put-same}
 use Rattle.protocol.specs.Ledger.{Ledger}
 use Rattle.protocol.specs.Chassis.{Chassis}
 use Rattle.wire.specs.declared.Message as wire
+use Rattle.wire.specs.Message.{log-bytes}
 use Rattle.replica_model.specs.Layout.{replica-length}
 use Rattle.replica_model.specs.Format.{on-wire}
 use Rattle.chassis_model.specs.ListParts.{part, put-part}
 use Rattle.chassis_model.specs.ListPartsLaws.{part-put, put-part-length}
 use Rattle.chassis_model.specs.Run.{State, replica-of, log-of, N-at, C-at, free-from}
-use Rattle.chassis_model.specs.LogLaws.{log-bytes, Stands, stands-in-log}
+use Rattle.chassis_model.specs.LogLaws.{Stands, stands-in-log}
 use Rattle.chassis_model.specs.Numbered.{wire-log, wire-log-at, length-numbered}
 pub use Rattle.chassis_model.specs.InStep.{Sizes, InStep, CardsAt}
 use Rattle.chassis_model.specs.InStep.{CardsShow}

@@ -43,7 +43,7 @@ action-of s =
 unfoldable pub amount-fits : Step → Bool
 amount-fits s = eqb (s .kind) count-kind || eqb (s .amount) 0
 
--- what a making counts, and whether that is an amount
+-- what a making counts; and whether its amount is in range, which is asked of a count alone
 unfoldable pub counted : Making → ℕ
 counted (Count w) = w
 counted Clear = 0

@@ -82,7 +82,7 @@ module _ {r k : ℕ} (now : CardsAt r k) (m : Making) (i q : ℕ) (hi : i < r) w
         rw (now .in-step .cards-show .heads i hi .own-is) (ap (step-size (ledger-action (Make m i q))) (holders-counted now i q hi hq))
 
   module _ (may : Going r k i q b m) where
-    writable : Writable (on-wire i (N + 1) (next-message r (now .chassis) m i q)) (message-size r m i q (now .ledgers q))
+    pub writable : Writable (on-wire i (N + 1) (next-message r (now .chassis) m i q)) (message-size r m i q (now .ledgers q))
     writable =
         let on = now .in-step .cards-show .heads i hi in
         let hq = may .counter in
@@ -95,7 +95,7 @@ module _ {r k : ℕ} (now : CardsAt r k) (m : Making) (i q : ℕ) (hi : i < r) w
           room = rw (on .own-is) (may .room);
         }))
 
-    next-outgoing : Outgoing r k i b (next-message r (now .chassis) m i q)
+    pub next-outgoing : Outgoing r k i b (next-message r (now .chassis) m i q)
     next-outgoing = record {
       sendable = message-sendable m r k i q (now .chassis .replica i) (may .counter);
       few = may .few;

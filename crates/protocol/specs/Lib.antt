@@ -71,6 +71,7 @@ pub mod RunsLaws
 pub mod Links
 pub mod OwnBounded
 pub mod Refusals
+pub mod OwnUnits
 -- One counter's own steps alone.
 pub mod AloneLedgers
 pub mod AloneRuns

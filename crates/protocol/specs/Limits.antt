@@ -32,11 +32,11 @@ bad-counter = 3
 abbrev pub exhausted : ℕ
 exhausted = 4
 
--- "Output shorter than the message"
+-- "Output shorter than the message, or than the converted log"
 abbrev pub short-output : ℕ
 short-output = 5
 
--- "Bytes do not read, or a message to write is out of range"
+-- "Bytes do not read, a message to write is out of range, or a log is not messages of its version end to end"
 abbrev pub unreadable : ℕ
 unreadable = 6
 
@@ -79,3 +79,7 @@ bad-log = 15
 -- "Amount out of range, or not 0 in a step that does not count"
 abbrev pub bad-amount : ℕ
 bad-amount = 16
+
+-- "A w above 1 on the way to version 1"
+abbrev pub above-one : ℕ
+above-one = 17

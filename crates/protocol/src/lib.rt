@@ -44,6 +44,8 @@ pub const BAD_LOG: u64 = 15;
 
 pub const BAD_AMOUNT: u64 = 16;
 
+pub const ABOVE_ONE: u64 = 17;
+
 // A replica's entry for one counter and one card: (p, n, c) of Algorithm 1, zeros where it is absent.
 pub struct Entry {
     pub p: u64,

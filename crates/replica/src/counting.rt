@@ -4,6 +4,7 @@ use crate::sending;
 use crate::words;
 use protocol::Entry;
 use replica_model::Sent;
+use wire::range;
 ghost use mathlib.Core.Path.{_≡_};
 ghost use mathlib.Core.Bool.{true};
 ghost use Prim.Native.Nat.{_≤_};
@@ -62,7 +63,7 @@ fn send_increment(words: &mut [u64], r: usize, q: usize, amount: u64, out: &mut 
 pub fn count(words: &mut [u64], counter: u64, amount: u64, out: &mut [u8]) -> Sent
     ensures { λ a. ⌜ _≡_ {A = SendOutcome} (record { answer = a; words = now (words .exit); out = now (out .exit) }) (count-on (now (words .entry)) counter amount (now (out .entry))) ⌝ }
 {
-    let number = sending::refusal(words, counter, sending::is_amount(amount), amount);
+    let number = sending::refusal(words, counter, range::is_amount(amount), amount);
     if number != 0 {
         return sending::refused(number);
     }

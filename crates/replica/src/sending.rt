@@ -8,7 +8,7 @@ ghost use Prim.Native.Nat.{_+_, _≤_};
 ghost use lib.Dec.{leb, eqb};
 ghost use Rattle.protocol.specs.Limits.{MAX, most-amount};
 ghost use Rattle.protocol.specs.Checks.{first-failing};
-ghost use Rattle.replica_model.specs.Calls.{is-amount, making-checks};
+ghost use Rattle.replica_model.specs.Calls.{making-checks};
 ghost use Rattle.replica.specs.SendLaws.{no-sent};
 
 pub(crate) fn refused(number: u64) -> Sent
@@ -19,13 +19,6 @@ pub(crate) fn refused(number: u64) -> Sent
         sequence: 0,
         length: 0,
     }
-}
-
-// Is it an amount that a count may have?
-pub(crate) fn is_amount(amount: u64) -> bool
-    ensures { λ a. ⌜ a ≡ is-amount amount ⌝ }
-{
-    (1 <= amount) & (amount <= protocol::MOST_AMOUNT)
 }
 
 // Has the card a message left, and so many increments?

@@ -329,3 +329,24 @@ written m out = record { answer = record { number = 0; length = message-length m
 unfoldable pub write-message : Message → List ℕ → WriteOutcome
 write-message m out =
     checked (λ number. write-declined number out) (write-checks m out) (written m out)
+
+-- ---- a log: messages one after the other
+
+unfoldable pub log-bytes : List Message → List ℕ
+log-bytes [] = []
+log-bytes (m ∷ ms) = message-bytes m ++ log-bytes ms
+
+-- the messages of a version that the bytes begin with, `most` of them at the most
+unfoldable pub messages-from : (version most : ℕ) → List ℕ → List Message
+messages-from version zero s = []
+messages-from version (suc most) s =
+    let front = front-length version s in
+    cond (eqb front 0) [] (message-at version (take front s) ∷ messages-from version most (drop front s))
+
+-- all of them: no message is empty, so they are not more than the bytes
+abbrev pub messages-in : ℕ → List ℕ → List Message
+messages-in version s = messages-from version (length s) s
+
+-- "messages of the version converted from, end to end, with nothing left over": those that the bytes begin with take them all
+abbrev pub is-log : ℕ → List ℕ → Bool
+is-log version s = eqb (length (log-bytes (messages-in version s))) (length s)

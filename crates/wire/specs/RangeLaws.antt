@@ -1,6 +1,6 @@
 -- LAWS. Ranges as the code tests them: one that starts at 1 by one comparison of a wrapped difference, an entry a range at a time, and a header apart from its version.
-use mathlib.Core.Path.{_≡_, refl, sym, _∙_}
-use mathlib.Core.Bool.{Bool, true, false, _&&_, and-assoc}
+use mathlib.Core.Path.{_≡_, sym, _∙_}
+use mathlib.Core.Bool.{Bool, true, _&&_, and-assoc}
 use Prim.Native.Nat.{ℕ, suc, _+_, _%_, _^_, _<_}
 use native.Mathlib.Nat.{mod-eq-of-lt}
 use native.Mathlib.Omega.{arith}
@@ -46,14 +46,10 @@ entry-tests a b p c most =
 abbrev pub rest-in-range : (sender sequence counter : ℕ) → Bool
 rest-in-range sender sequence counter = ltb sender most-cards && from-one-to MAX sequence && ltb counter most-counters
 
-and-first : (a b c d : Bool) → a && (b && c && d) ≡ a && b && c && d
-and-first true b c d = refl
-and-first false b c d = refl
-
 module _ (version sender sequence counter : ℕ) where
   pub header-parts : is-version version && rest-in-range sender sequence counter ≡ header-in-range version sender sequence counter
   unfolding header-in-range
-  header-parts = and-first (is-version version) (ltb sender most-cards) (from-one-to MAX sequence) (ltb counter most-counters)
+  header-parts = simp and-assoc
 
   pub known-header : is-version version ≡ true → rest-in-range sender sequence counter ≡ header-in-range version sender sequence counter
   unfolding header-in-range

@@ -38,7 +38,7 @@ fn does_increment_read(bytes: &[u8], version: u32, header: Header) -> bool
     let rest = range::rest_in_range(header.sender, header.sequence, header.counter);
     if has_amount(version) {
         let amount = reader::next_int(bytes, body.behind);
-        return rest & range::is_amount(amount.number);
+        return rest & range::is_amount(amount.number as u64);
     }
     rest
 }

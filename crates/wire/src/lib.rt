@@ -7,7 +7,7 @@ ghost use Rattle.wire.specs.Message.{is-version, has-amount, increment-l
 pub mod decode;
 pub mod encode;
 pub mod number;
-mod range;
+pub mod range;
 pub mod reader;
 
 // The versions. From version 2 on an increment has its amount, and that is all that tells them apart.
@@ -23,7 +23,7 @@ pub const CLEAR: u32 = 2;
 // The lengths of a header, of an increment without its amount and with it, of a clear without entries and of an entry.
 const HEADER_BYTES: usize = 24;
 
-const PLAIN_INCREMENT_BYTES: usize = 36;
+pub const PLAIN_INCREMENT_BYTES: usize = 36;
 
 pub const INCREMENT_BYTES: usize = 40;
 
@@ -77,7 +77,8 @@ fn is_version(version: u32) -> bool
     (VERSION_1 <= version) & (version <= VERSION_2)
 }
 
-fn has_amount(version: u32) -> bool
+// Ruled out: an amount in version 1 (must-fail/amount_in_version_1), and a later version without one.
+pub fn has_amount(version: u32) -> bool
     ensures { λ r. ⌜ r ≡ has-amount version ⌝ }
 {
     VERSION_2 <= version

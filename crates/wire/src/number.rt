@@ -7,9 +7,9 @@ ghost use lib.Seq.{sets};
 ghost use Rattle.wire.specs.Number.{int-width, hyper-width, number-at, bytes-of, int-at, hyper-at, unsigned-int, unsigned-hyper};
 
 // The bytes of an unsigned int and of an unsigned hyper.
-pub(crate) const INT_BYTES: usize = 4;
+pub const INT_BYTES: usize = 4;
 
-pub(crate) const HYPER_BYTES: usize = 8;
+pub const HYPER_BYTES: usize = 8;
 
 fn widened(byte: u8) -> u64
     ensures { λ r. ⌜ r ≡ byte ⌝ }
@@ -39,7 +39,8 @@ pub fn read_u32(s: &[u8], at: usize) -> u32
     read_number(s, at, INT_BYTES) as u32
 }
 
-fn read_u64(s: &[u8], at: usize) -> u64
+// Ruled out: the bytes in another order, and a byte of the next number taken in.
+pub fn read_u64(s: &[u8], at: usize) -> u64
     requires { ⌜ at + hyper-width ≤ length (now s) ⌝ }
     ensures { λ r. ⌜ r ≡ hyper-at (now (s .entry)) at ⌝ }
 {
@@ -72,14 +73,16 @@ fn write_number(out: &mut [u8], at: usize, width: usize, x: u64)
     }
 }
 
-pub(crate) fn write_u32(out: &mut [u8], at: usize, x: u32)
+// Ruled out: the bytes in another order, and a byte beside the number that changes.
+pub fn write_u32(out: &mut [u8], at: usize, x: u32)
     requires { ⌜ at + int-width ≤ length (now out) ⌝ }
     ensures { λ _. ⌜ now (out .exit) ≡ sets (now (out .entry)) at (unsigned-int x) ⌝ }
 {
     write_number(out, at, INT_BYTES, x as u64);
 }
 
-pub(crate) fn write_u64(out: &mut [u8], at: usize, x: u64)
+// Ruled out: the bytes in another order, and a byte beside the number that changes.
+pub fn write_u64(out: &mut [u8], at: usize, x: u64)
     requires { ⌜ at + hyper-width ≤ length (now out) ⌝ }
     ensures { λ _. ⌜ now (out .exit) ≡ sets (now (out .entry)) at (unsigned-hyper x) ⌝ }
 {

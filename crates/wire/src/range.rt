@@ -41,18 +41,19 @@ pub(crate) fn increment_in_range(p: u64, start: u32) -> bool
     from_one(p, protocol::MAX) & (start <= 1)
 }
 
-// The amount of a version that has one.
-pub(crate) fn is_amount(amount: u32) -> bool
+// Is it an amount that a count may have?
+// Ruled out: 0, and an amount that only its last 32 bits make one.
+pub fn is_amount(amount: u64) -> bool
     ensures { λ r. ⌜ r ≡ from-one-to most-amount amount ⌝ }
 {
-    from_one(amount as u64, protocol::MOST_AMOUNT)
+    from_one(amount, protocol::MOST_AMOUNT)
 }
 
 pub(crate) fn amount_in_range(version: u32, amount: u32) -> bool
     ensures { λ r. ⌜ r ≡ amount-in-range version amount ⌝ }
 {
     if has_amount(version) {
-        return is_amount(amount);
+        return is_amount(amount as u64);
     }
     amount == 0
 }

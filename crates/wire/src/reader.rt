@@ -139,7 +139,7 @@ pub fn increment_from(bytes: &[u8], at: usize) -> Increment
 
 // The amount behind that; where the version has none, 0 and no bytes.
 // Ruled out: an amount in version 1 (must-fail/amount_in_version_1), and `start` taken for the amount.
-pub(crate) fn amount_from(bytes: &[u8], version: u32, at: usize) -> IntRead
+pub fn amount_from(bytes: &[u8], version: u32, at: usize) -> IntRead
     requires { ⌜ at + amount-length version ≤ length (now bytes) ⌝ }
     ensures { λ r. ⌜ r ≡ amount-read-at version (now (bytes .entry)) at ⌝ }
 {

@@ -11,6 +11,7 @@ use wire::Message;
 use wire::Written;
 ghost use mathlib.Core.Path.{_≡_};
 ghost use Rattle.wire.specs.Message.{read-message, WriteOutcome, write-message};
+ghost use Rattle.conversion.specs.Conversion.{to-version-2-on, to-version-1-on};
 ghost use Rattle.replica_model.specs.Calls.{OpenOutcome, open-on, read-on, SendOutcome, count-on, clear-on, ClearedOutcome, read-and-clear-on, TakeOutcome, take-on};
 ghost use Rattle.chassis_model.specs.Log.{waiting-span};
 ghost use Rattle.chassis_model.specs.Run.{RunOutcome, run-bytes-on};
@@ -87,6 +88,22 @@ pub extern "C" fn yelansub_write_message(message: Message, out: &mut [u8]) -> Wr
     ensures { λ a. ⌜ _≡_ {A = WriteOutcome} (record { answer = a; out = now (out .exit) }) (write-message message (now (out .entry))) ⌝ }
 {
     wire::encode::write_message(message, out)
+}
+
+// Ruled out: a log of version 2 converted to version 1, and a refusal answered with 0.
+#[no_mangle]
+pub extern "C" fn yelansub_to_version_2(log: &[u8], out: &mut [u8]) -> Written
+    ensures { λ a. ⌜ _≡_ {A = WriteOutcome} (record { answer = a; out = now (out .exit) }) (to-version-2-on (now (log .entry)) (now (out .entry))) ⌝ }
+{
+    converter::to_version_2(log, out)
+}
+
+// Ruled out: a log that is converted to version 2 (must-fail/converted_the_other_way), and a refusal answered with 0.
+#[no_mangle]
+pub extern "C" fn yelansub_to_version_1(log: &[u8], out: &mut [u8]) -> Written
+    ensures { λ a. ⌜ _≡_ {A = WriteOutcome} (record { answer = a; out = now (out .exit) }) (to-version-1-on (now (log .entry)) (now (out .entry))) ⌝ }
+{
+    converter::to_version_1(log, out)
 }
 
 // Ruled out: every log's first message, and a span of a message that does not read.

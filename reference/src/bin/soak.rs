@@ -1,14 +1,15 @@
 //! Random calls, messages, logs and runs against the library for as long as asked, then deeper
 //! exhaustive lists: `cargo run --release --offline --bin soak -- [MINUTES] [FIRST_SEED]`.
 //! One series alone, as long as asked: `-- network [CALLS] [SEED]`, `-- alone [LISTS] [SEED]`,
-//! `-- total [LISTS] [SEED]`, `-- quiet [LISTS] [SEED]`, `-- pending [LISTS] [SEED]`.
+//! `-- total [LISTS] [SEED]`, `-- quiet [LISTS] [SEED]`, `-- pending [LISTS] [SEED]`,
+//! `-- convert [LOGS] [SEED]`.
 //! Each round prints its seed; a difference panics with seed and case.
 
 use std::time::{Duration, Instant};
 
 use yelansub_reference::differential::Tally;
-use yelansub_reference::differential::{alone, calls, logs, messages, network, pending};
-use yelansub_reference::differential::{quiet, runs, total, units};
+use yelansub_reference::differential::{alone, calls, convert, logs, messages, network};
+use yelansub_reference::differential::{pending, quiet, runs, total, units};
 
 /// Calls of histories for each list, which take about as long.
 const CALLS_A_LIST: u64 = 10;
@@ -48,6 +49,11 @@ fn main() {
             report(pending::after_runs(seed, lists, 100), pending::require_runs);
             report(pending::random_states(seed, lists), pending::require_states);
         }
+        Some("convert") => {
+            let (logs, seed) = (number(1, 100_000), number(2, 1));
+            println!("{logs} logs each way, and as many lists of version 1, from seed {seed}");
+            report_conversions(seed, logs);
+        }
         _ => every_series(number(0, 10), number(1, 1_000_000)),
     }
 }
@@ -55,6 +61,13 @@ fn main() {
 fn report(tally: Tally, require: impl Fn(&Tally)) {
     println!("{tally}");
     require(&tally);
+}
+
+fn report_conversions(seed: u64, logs: u64) {
+    let tallies = convert::random_logs(seed, logs);
+    tallies.iter().for_each(|tally| println!("{tally}"));
+    convert::require_all(&tallies);
+    report(convert::same_replicas(seed, logs, 100), convert::require_replicas);
 }
 
 fn every_series(minutes: u64, first: u64) {
@@ -75,6 +88,7 @@ fn every_series(minutes: u64, first: u64) {
         report(units::random_lists(seed, 10_000, 100), units::require_all);
         report(pending::after_runs(seed, 5_000, 100), pending::require_runs);
         report(pending::random_states(seed, 20_000), pending::require_states);
+        report_conversions(seed, 10_000);
         if Instant::now() > until {
             break;
         }

@@ -1,6 +1,6 @@
 //! A message alone, read from bytes and written from the header's struct, good and damaged.
 
-use super::{generate, Guarded, Place, Tally};
+use super::{generate, written, Guarded, Place, Tally};
 use crate::library::{self, MessageReading, Written};
 use crate::limits::*;
 use crate::message::{self, Body, Entries, Entry, Message, VERSIONS};
@@ -88,14 +88,10 @@ pub fn reading(message: Option<Message>) -> MessageReading {
 
 /// The reference's writing of the header's struct.
 fn write(form: &library::Message, out: &mut [u8]) -> Written {
-    let answer = match message_of(form) {
+    written(match message_of(form) {
         Some(message) => message::write(&message, out),
         None => Err(UNREADABLE),
-    };
-    match answer {
-        Ok(length) => Written { number: OK, length },
-        Err(number) => Written { number, length: 0 },
-    }
+    })
 }
 
 /// `cases` messages: each read as bytes and written as a struct, either damaged or not.

@@ -3,6 +3,7 @@
 
 pub mod alone;
 pub mod calls;
+pub mod convert;
 pub mod generate;
 pub mod logs;
 pub mod messages;
@@ -196,6 +197,14 @@ pub fn taken(answer: Result<u64, u64>) -> library::Taken {
     match answer {
         Ok(sequence) => library::Taken { number: OK, sequence },
         Err(number) => library::Taken { number, sequence: 0 },
+    }
+}
+
+/// The reference's answer to a call that writes and gives a length, in the library's shape.
+pub fn written(answer: Result<usize, u64>) -> library::Written {
+    match answer {
+        Ok(length) => library::Written { number: OK, length },
+        Err(number) => library::Written { number, length: 0 },
     }
 }
 

@@ -552,7 +552,7 @@ fn any_message(
     Message { version: CURRENT, sender: sender as u32, sequence, counter: counter as u32, body }
 }
 
-fn bytes_of(messages: &[Message]) -> Vec<u8> {
+pub(super) fn bytes_of(messages: &[Message]) -> Vec<u8> {
     let bytes = |message: &Message| {
         let mut out = [0; LONGEST_MESSAGE];
         let length = message::write(message, &mut out).expect("in range");

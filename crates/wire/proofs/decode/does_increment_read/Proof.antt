@@ -65,12 +65,15 @@ next-int-requires c κs =
     let read = has .before .before .before .before in
     omega (arith, body read .behind, rw (sym (has .has-amount .ensures) ∙ c .if3 .taken) at (exact (read .before)))
 
+cast-is-amount : tie.Need-cast-is-amount
+cast-is-amount c = search needs
+
 is-amount-requires : tie.Need-is-amount-requires
 is-amount-requires c κs = search needs
 
 returns-3 : tie.Need-returns-3
 returns-3 c =
-    let amount = c .before in
+    let amount = c .before .before in
     let then3 = amount .before in
     let rest = then3 .before .before in
     let else2 = rest .before in
@@ -102,6 +105,7 @@ does-increment-read-spec =
     rest-in-range-requires
     has-amount-requires
     next-int-requires
+    cast-is-amount
     is-amount-requires
     returns-3
     returns-4)

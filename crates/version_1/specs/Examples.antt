@@ -1,0 +1,72 @@
+-- CLAIMS. Orders from the bench by version 1's rules, computed; each figure was worked out by hand. With a replica that no run leaves, on which the two rules differ.
+use Prim.Native.Nat.{ℕ}
+use mathlib.Core.Path.{_≡_, refl}
+use mathlib.Core.List.{List, [], _∷_}
+use lib.ListN.{length}
+use Rattle.protocol.specs.Limits.{bad-row, bad-card, nothing-waiting}
+use Rattle.protocol.specs.Tables.{put}
+use Rattle.protocol.specs.Entry.{cleared}
+use Rattle.protocol.specs.Entry as entry
+use Rattle.protocol.specs.Functions.{all-below}
+use Rattle.protocol.specs.RoundRobin.{Link, link}
+use Rattle.protocol.specs.Acceptance as acceptance
+use Rattle.protocol.specs.Acceptance.{entry-well-formed, card-well-formed, tables-well-formed, all-entries, cards-known, increment-plausible, entry-plausible}
+use Rattle.protocol.specs.Chassis.{present-entries, clear-message}
+use Rattle.protocol.specs.Store.{cleared-words, taken-words, shown}
+use Rattle.wire.specs.Number.{number-at, bytes-of}
+use Rattle.wire.specs.Message as form
+use Rattle.wire.specs.Message.{header-bytes, increment-bytes, entry-bytes, entries-bytes, clear-bytes, message-bytes, header-in-range, increment-in-range, amount-in-range, clear-in-range, entry-in-range, entries-in-range, unused, in-range, increment-message, entries-at, called-length, message-at, reads, front-length, log-bytes, messages-from}
+use Rattle.conversion.specs.Conversion.{in-version, converted}
+use Rattle.replica_model.specs.Layout.{fresh-words}
+use Rattle.replica_model.specs.Calls as today
+use Rattle.replica_model.specs.Calls.{sizes-in-range, replica-fits, right, take-with}
+use Rattle.replica_model.specs.Format as format
+use Rattle.version_1.specs.Rules.{content, row-well-formed, increment-implausible, plausible, incremented, words-after, send, count-of, take-on}
+use Rattle.version_1.specs.Run.{Step, count, clear, deliver, made, delivered, after-deliveries, delivery-numbers, step-on, after-steps, after-run, by-old-rules, old-numbers, by-new-rules, new-numbers}
+
+-- card 0 counts, card 1 has it and clears, card 0 counts again: card 0's log has its two increments, 36 bytes each
+abbrev pub steps : List Step
+steps = count 0 0 ∷ deliver 1 0 ∷ clear 1 0 ∷ count 0 0 ∷ []
+
+pub log-of-0 : after-run 2 1 72 steps .logs 0
+    ≡ 0 ∷ 0 ∷ 0 ∷ 1 ∷ 0 ∷ 0 ∷ 0 ∷ 1 ∷ 0 ∷ 0 ∷ 0 ∷ 0 ∷ 0 ∷ 0 ∷ 0 ∷ 0 ∷ 0 ∷ 0 ∷ 0 ∷ 1 ∷ 0 ∷ 0 ∷ 0 ∷ 0
+    ∷ 0 ∷ 0 ∷ 0 ∷ 0 ∷ 0 ∷ 0 ∷ 0 ∷ 1 ∷ 0 ∷ 0 ∷ 0 ∷ 1
+    ∷ 0 ∷ 0 ∷ 0 ∷ 1 ∷ 0 ∷ 0 ∷ 0 ∷ 1 ∷ 0 ∷ 0 ∷ 0 ∷ 0 ∷ 0 ∷ 0 ∷ 0 ∷ 0 ∷ 0 ∷ 0 ∷ 0 ∷ 2 ∷ 0 ∷ 0 ∷ 0 ∷ 0
+    ∷ 0 ∷ 0 ∷ 0 ∷ 0 ∷ 0 ∷ 0 ∷ 0 ∷ 2 ∷ 0 ∷ 0 ∷ 0 ∷ 0 ∷ []
+unfolding put all-below entry.incremented cleared entry-well-formed card-well-formed tables-well-formed all-entries cards-known increment-plausible entry-plausible acceptance.plausible present-entries clear-message cleared-words taken-words shown number-at bytes-of header-bytes increment-bytes entry-bytes entries-bytes clear-bytes message-bytes header-in-range increment-in-range amount-in-range clear-in-range entry-in-range entries-in-range unused in-range increment-message form.clear-message entries-at called-length message-at reads front-length log-bytes messages-from in-version converted fresh-words sizes-in-range replica-fits right today.row-well-formed today.words-after take-with format.content content row-well-formed increment-implausible plausible incremented words-after send count-of take-on made delivered after-deliveries delivery-numbers step-on after-steps
+log-of-0 = refl
+
+pub words-left : (after-run 2 1 72 steps .words 0 ≡ 2 ∷ 1 ∷ 0 ∷ 2 ∷ 0 ∷ 2 ∷ 0 ∷ 2 ∷ 0 ∷ 2 ∷ 0 ∷ 0 ∷ 0 ∷ [])
+    × (after-run 2 1 72 steps .words 1 ≡ 2 ∷ 1 ∷ 1 ∷ 1 ∷ 0 ∷ 1 ∷ 1 ∷ 0 ∷ 0 ∷ 0 ∷ 0 ∷ 0 ∷ 0 ∷ [])
+unfolding put all-below entry.incremented cleared entry-well-formed card-well-formed tables-well-formed all-entries cards-known increment-plausible entry-plausible acceptance.plausible present-entries clear-message cleared-words taken-words shown number-at bytes-of header-bytes increment-bytes entry-bytes entries-bytes clear-bytes message-bytes header-in-range increment-in-range amount-in-range clear-in-range entry-in-range entries-in-range unused in-range increment-message form.clear-message entries-at called-length message-at reads front-length log-bytes messages-from in-version converted fresh-words sizes-in-range replica-fits right today.row-well-formed today.words-after take-with format.content content row-well-formed increment-implausible plausible incremented words-after send count-of take-on made delivered after-deliveries delivery-numbers step-on after-steps
+words-left = (refl, refl)
+
+-- one byte less, and the second count is declined: card 0's log keeps 36 bytes, and its words the first count
+pub log-full : (length (after-run 2 1 71 steps .logs 0) ≡ 36) × (after-run 2 1 71 steps .words 0 ≡ 2 ∷ 1 ∷ 0 ∷ 1 ∷ 0 ∷ 1 ∷ 0 ∷ 1 ∷ 0 ∷ 1 ∷ 0 ∷ 0 ∷ 0 ∷ [])
+unfolding put all-below entry.incremented cleared entry-well-formed card-well-formed tables-well-formed all-entries cards-known increment-plausible entry-plausible acceptance.plausible present-entries clear-message cleared-words taken-words shown number-at bytes-of header-bytes increment-bytes entry-bytes entries-bytes clear-bytes message-bytes header-in-range increment-in-range amount-in-range clear-in-range entry-in-range entries-in-range unused in-range increment-message form.clear-message entries-at called-length message-at reads front-length log-bytes messages-from in-version converted fresh-words sizes-in-range replica-fits right today.row-well-formed today.words-after take-with format.content content row-well-formed increment-implausible plausible incremented words-after send count-of take-on made delivered after-deliveries delivery-numbers step-on after-steps
+log-full = (refl, refl)
+
+-- then each takes what the other has made, and what does not wait is declined: both have (2,1,2), by either rules
+abbrev pub links : List Link
+links = link 0 1 ∷ link 0 1 ∷ link 1 1 ∷ link 1 0 ∷ link 2 0 ∷ []
+
+pub old-left : (by-old-rules 2 links (after-run 2 1 72 steps) .words 0 ≡ 2 ∷ 1 ∷ 0 ∷ 2 ∷ 0 ∷ 2 ∷ 1 ∷ 2 ∷ 1 ∷ 2 ∷ 0 ∷ 0 ∷ 0 ∷ [])
+    × (by-old-rules 2 links (after-run 2 1 72 steps) .words 1 ≡ 2 ∷ 1 ∷ 1 ∷ 2 ∷ 0 ∷ 2 ∷ 1 ∷ 2 ∷ 1 ∷ 2 ∷ 0 ∷ 0 ∷ 0 ∷ [])
+    × (old-numbers 2 links (after-run 2 1 72 steps) ≡ 0 ∷ nothing-waiting ∷ bad-card ∷ 0 ∷ bad-card ∷ [])
+unfolding put all-below entry.incremented cleared entry-well-formed card-well-formed tables-well-formed all-entries cards-known increment-plausible entry-plausible acceptance.plausible present-entries clear-message cleared-words taken-words shown number-at bytes-of header-bytes increment-bytes entry-bytes entries-bytes clear-bytes message-bytes header-in-range increment-in-range amount-in-range clear-in-range entry-in-range entries-in-range unused in-range increment-message form.clear-message entries-at called-length message-at reads front-length log-bytes messages-from in-version converted fresh-words sizes-in-range replica-fits right today.row-well-formed today.words-after take-with format.content content row-well-formed increment-implausible plausible incremented words-after send count-of take-on made delivered after-deliveries delivery-numbers step-on after-steps
+old-left = (refl, refl, refl)
+
+pub new-left : (by-new-rules 2 links (after-run 2 1 72 steps) .words 0 ≡ 2 ∷ 1 ∷ 0 ∷ 2 ∷ 0 ∷ 2 ∷ 1 ∷ 2 ∷ 1 ∷ 2 ∷ 0 ∷ 0 ∷ 0 ∷ [])
+    × (by-new-rules 2 links (after-run 2 1 72 steps) .words 1 ≡ 2 ∷ 1 ∷ 1 ∷ 2 ∷ 0 ∷ 2 ∷ 1 ∷ 2 ∷ 1 ∷ 2 ∷ 0 ∷ 0 ∷ 0 ∷ [])
+    × (new-numbers 2 links (after-run 2 1 72 steps) ≡ 0 ∷ nothing-waiting ∷ bad-card ∷ 0 ∷ bad-card ∷ [])
+unfolding put all-below entry.incremented cleared entry-well-formed card-well-formed tables-well-formed all-entries cards-known increment-plausible entry-plausible acceptance.plausible present-entries clear-message cleared-words taken-words shown number-at bytes-of header-bytes increment-bytes entry-bytes entries-bytes clear-bytes message-bytes header-in-range increment-in-range amount-in-range clear-in-range entry-in-range entries-in-range unused in-range increment-message form.clear-message entries-at called-length message-at reads front-length log-bytes messages-from in-version converted fresh-words sizes-in-range replica-fits right today.row-well-formed today.words-after take-with format.content content row-well-formed increment-implausible plausible incremented words-after send count-of take-on made delivered after-deliveries delivery-numbers step-on after-steps
+new-left = (refl, refl, refl)
+
+-- Card 1's words with C above N, as no run of version 1 leaves them: an increment of card 0 with p = 2 and start is 2 by version 1's rules, and by those of today, converted, it is taken.
+abbrev pub ahead : List ℕ
+ahead = 2 ∷ 1 ∷ 1 ∷ 1 ∷ 0 ∷ 0 ∷ 0 ∷ 0 ∷ 0 ∷ 0 ∷ 0 ∷ 0 ∷ 0 ∷ []
+
+pub rules-differ : let m = increment-message form.version-1 0 1 0 2 1 0 in
+    (take-on ahead (message-bytes m) .answer .number ≡ bad-row) × (today.take-on ahead (message-bytes (in-version form.version-2 m)) .answer .number ≡ 0)
+unfolding put all-below entry.incremented cleared entry-well-formed card-well-formed tables-well-formed all-entries cards-known increment-plausible entry-plausible acceptance.plausible present-entries clear-message cleared-words taken-words shown number-at bytes-of header-bytes increment-bytes entry-bytes entries-bytes clear-bytes message-bytes header-in-range increment-in-range amount-in-range clear-in-range entry-in-range entries-in-range unused in-range increment-message form.clear-message entries-at called-length message-at reads front-length log-bytes messages-from in-version converted fresh-words sizes-in-range replica-fits right today.row-well-formed today.words-after take-with format.content content row-well-formed increment-implausible plausible incremented words-after send count-of take-on made delivered after-deliveries delivery-numbers step-on after-steps
+rules-differ = (refl, refl)
