@@ -311,6 +311,8 @@ struct yelansub_written yelansub_to_version_2(const uint8_t *log, size_t log_len
  *   17  some amount is above 1,
  *   5   out_len is below the length of the converted log, which is at most
  *       log_len.
+ * So in a chassis with older cards every card counts by 1: a message with a
+ * larger amount cannot be handed to them, nor what its card makes after it.
  * Everything else is as in yelansub_to_version_2, which converts what was written
  * to the same bytes as before.
  */

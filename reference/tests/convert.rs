@@ -35,6 +35,14 @@ fn converted_messages_leave_what_cards_of_version_1_leave() {
     convert::require_replicas(&tally);
 }
 
+#[test]
+fn old_and_new_cards_leave_what_cards_of_version_1_leave() {
+    let (seed, lists) = (seed(20_261_003), 10_000);
+    let tally = convert::together(seed, lists, 60);
+    println!("{lists} lists from seed {seed}\n{tally}");
+    convert::require_together(&tally);
+}
+
 // ---- the rules of version 1 at their edges
 
 /// Card 1 of three on two counters. Every card has made ten messages and counted five.

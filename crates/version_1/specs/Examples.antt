@@ -1,8 +1,10 @@
 -- CLAIMS. Orders from the bench by version 1's rules, computed; each figure was worked out by hand. With a replica that no run leaves, on which the two rules differ.
 use Prim.Native.Nat.{ℕ}
 use mathlib.Core.Path.{_≡_, refl}
-use mathlib.Core.List.{List, [], _∷_}
+use mathlib.Core.List.{List, [], _∷_, _++_}
+use mathlib.Core.Bool.{Bool}
 use lib.ListN.{length}
+use lib.Dec.{eqb}
 use Rattle.protocol.specs.Limits.{bad-row, bad-card, nothing-waiting}
 use Rattle.protocol.specs.Tables.{put}
 use Rattle.protocol.specs.Entry.{cleared}
@@ -22,7 +24,7 @@ use Rattle.replica_model.specs.Calls as today
 use Rattle.replica_model.specs.Calls.{sizes-in-range, replica-fits, right, take-with}
 use Rattle.replica_model.specs.Format as format
 use Rattle.version_1.specs.Rules.{content, row-well-formed, increment-implausible, plausible, incremented, words-after, send, count-of, take-on}
-use Rattle.version_1.specs.Run.{Step, count, clear, deliver, made, delivered, after-deliveries, delivery-numbers, step-on, after-steps, after-run, by-old-rules, old-numbers, by-new-rules, new-numbers}
+use Rattle.version_1.specs.Run.{Step, count, clear, deliver, Chassis, fresh, made, delivered, after-deliveries, delivery-numbers, step-on, after-steps, after-run, deliver-steps, by-old-rules, old-numbers, by-new-rules, new-numbers}
 
 -- card 0 counts, card 1 has it and clears, card 0 counts again: card 0's log has its two increments, 36 bytes each
 abbrev pub steps : List Step
@@ -61,6 +63,22 @@ pub new-left : (by-new-rules 2 links (after-run 2 1 72 steps) .words 0 ≡ 2 ∷
     × (new-numbers 2 links (after-run 2 1 72 steps) ≡ 0 ∷ nothing-waiting ∷ bad-card ∷ 0 ∷ bad-card ∷ [])
 unfolding put all-below entry.incremented cleared entry-well-formed card-well-formed tables-well-formed all-entries cards-known increment-plausible entry-plausible acceptance.plausible present-entries clear-message cleared-words taken-words shown number-at bytes-of header-bytes increment-bytes entry-bytes entries-bytes clear-bytes message-bytes header-in-range increment-in-range amount-in-range clear-in-range entry-in-range entries-in-range unused in-range increment-message form.clear-message entries-at called-length message-at reads front-length log-bytes messages-from in-version converted fresh-words sizes-in-range replica-fits right today.row-well-formed today.words-after take-with format.content content row-well-formed increment-implausible plausible incremented words-after send count-of take-on made delivered after-deliveries delivery-numbers step-on after-steps
 new-left = (refl, refl, refl)
+
+-- The same steps and deliveries where card 0 is of version 1 and card 1 of today: the same words, and card 1's clear is of version 2, 48 bytes.
+abbrev pub first-old : ℕ → Bool
+first-old i = eqb i 0
+
+abbrev pub together : Chassis
+together = after-steps first-old 2 72 (steps ++ deliver-steps links) (fresh 2 1)
+
+pub together-left : (together .words 0 ≡ 2 ∷ 1 ∷ 0 ∷ 2 ∷ 0 ∷ 2 ∷ 1 ∷ 2 ∷ 1 ∷ 2 ∷ 0 ∷ 0 ∷ 0 ∷ [])
+    × (together .words 1 ≡ 2 ∷ 1 ∷ 1 ∷ 2 ∷ 0 ∷ 2 ∷ 1 ∷ 2 ∷ 1 ∷ 2 ∷ 0 ∷ 0 ∷ 0 ∷ [])
+    × (length (together .logs 0) ≡ 72)
+    × (together .logs 1
+    ≡ 0 ∷ 0 ∷ 0 ∷ 2 ∷ 0 ∷ 0 ∷ 0 ∷ 2 ∷ 0 ∷ 0 ∷ 0 ∷ 1 ∷ 0 ∷ 0 ∷ 0 ∷ 0 ∷ 0 ∷ 0 ∷ 0 ∷ 1 ∷ 0 ∷ 0 ∷ 0 ∷ 0
+    ∷ 0 ∷ 0 ∷ 0 ∷ 1 ∷ 0 ∷ 0 ∷ 0 ∷ 0 ∷ 0 ∷ 0 ∷ 0 ∷ 0 ∷ 0 ∷ 0 ∷ 0 ∷ 1 ∷ 0 ∷ 0 ∷ 0 ∷ 0 ∷ 0 ∷ 0 ∷ 0 ∷ 1 ∷ [])
+unfolding put all-below entry.incremented cleared entry-well-formed card-well-formed tables-well-formed all-entries cards-known increment-plausible entry-plausible acceptance.plausible present-entries clear-message cleared-words taken-words shown number-at bytes-of header-bytes increment-bytes entry-bytes entries-bytes clear-bytes message-bytes header-in-range increment-in-range amount-in-range clear-in-range entry-in-range entries-in-range unused in-range increment-message form.clear-message entries-at called-length message-at reads front-length log-bytes messages-from in-version converted fresh-words sizes-in-range replica-fits right today.row-well-formed today.words-after take-with format.content today.clear-on today.send-with content row-well-formed increment-implausible plausible incremented words-after send count-of take-on made delivered after-deliveries delivery-numbers step-on after-steps
+together-left = (refl, refl, refl, refl)
 
 -- Card 1's words with C above N, as no run of version 1 leaves them: an increment of card 0 with p = 2 and start is 2 by version 1's rules, and by those of today, converted, it is taken.
 abbrev pub ahead : List ℕ

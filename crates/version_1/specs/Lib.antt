@@ -13,9 +13,10 @@ pub mod Singles
 pub mod OldRules
 pub mod OldMessages
 pub mod OldLogs
--- A chassis of version 1 beside the theory's and a driver's cards, step by step, and the theorems.
+-- A chassis of old and new cards beside the theory's and a driver's cards, step by step, and the theorems.
 pub mod Beside
 pub mod MadeBeside
+pub mod MadeNumbers
 pub mod DeliveredBeside
 pub mod CardsBeside
 pub mod StepBeside

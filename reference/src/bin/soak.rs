@@ -68,6 +68,7 @@ fn report_conversions(seed: u64, logs: u64) {
     tallies.iter().for_each(|tally| println!("{tally}"));
     convert::require_all(&tallies);
     report(convert::same_replicas(seed, logs, 100), convert::require_replicas);
+    report(convert::together(seed, logs, 100), convert::require_together);
 }
 
 fn every_series(minutes: u64, first: u64) {

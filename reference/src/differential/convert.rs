@@ -1,7 +1,7 @@
 //! A log in the other version: every number, length and byte as the reference has them, on right
 //! logs and on damaged, mixed, cut and longer ones. What has to hold of the library's answers alone
 //! is told from its reader, message by message, and from the way back. And cards of version 1: their
-//! messages, and the converted ones, leave the same replicas.
+//! messages, and the converted ones, leave the same replicas, also in one chassis with new cards.
 
 use super::alone::List;
 use super::pending::bytes_of;
@@ -333,6 +333,16 @@ fn sizes(random: &mut Random) -> (usize, usize) {
     }
 }
 
+/// A step that is good as a rule.
+fn step_of_version_1(random: &mut Random, cards: usize, counters: usize) -> version_1::Step {
+    let Step { kind, first, second, .. } = generate::good_step(random, cards, counters);
+    let mut step = [kind, first, second];
+    if random.percent(3) {
+        step[random.below(3) as usize] = random.pick(&generate::EDGES) as u32;
+    }
+    step
+}
+
 /// A run of up to `longest` steps, and those that were accepted.
 fn run_of_version_1(
     random: &mut Random,
@@ -347,11 +357,7 @@ fn run_of_version_1(
     let mut chassis = Chassis::fresh(cards, counters, log_bytes as usize);
     let mut accepted = Vec::new();
     for _ in 0..random.between(0, longest) {
-        let Step { kind, first, second, .. } = generate::good_step(random, cards, counters);
-        let mut step = [kind, first, second];
-        if random.percent(3) {
-            step[random.below(3) as usize] = random.pick(&generate::EDGES) as u32;
-        }
+        let step = step_of_version_1(random, cards, counters);
         let before = chassis.clone();
         let number = chassis.step(step);
         tally.note("step", number);
@@ -546,4 +552,117 @@ fn in_rounds(
     assert_eq!(answer, Delivered { number: OK, deliveries }, "{}", place());
     assert_eq!(words, there.words.concat(), "{}", place());
     tally.note("waiting at last", deliveries.min(1));
+}
+
+// ---- old cards and new ones in one chassis
+
+/// Some cards are of version 1, the others the library's; each has made its messages in its version.
+struct Together {
+    is_old: Vec<bool>,
+    words: Vec<Vec<u64>>,
+    made: Vec<Vec<Vec<u8>>>,
+}
+
+/// What is handed over, by the versions of its sender and its receiver: 1 an increment, 2 a clear.
+const HANDED: [[&str; 2]; 2] = [["new to new", "new to old"], ["old to new", "old to old"]];
+
+impl Together {
+    /// The step's answer, where every log has room.
+    fn step(&mut self, [kind, first, second]: version_1::Step, tally: &mut Tally) -> u64 {
+        let (first, second) = (first as usize, second as usize);
+        match kind {
+            STEP_COUNT | STEP_CLEAR => self.make(kind, first, second as u64),
+            STEP_DELIVER => self.deliver(first, second, tally),
+            _ => BAD_KIND,
+        }
+    }
+
+    fn make(&mut self, kind: u32, card: usize, counter: u64) -> u64 {
+        let Some(words) = self.words.get_mut(card) else { return BAD_CARD };
+        let mut out = vec![0; LONGEST_MESSAGE];
+        let sent = |sent: library::Sent| match sent.number {
+            OK => Ok(sent.length),
+            number => Err(number),
+        };
+        let length = match (self.is_old[card], kind) {
+            (true, STEP_COUNT) => version_1::count(words, counter, &mut out).map(|s| s.length),
+            (true, _) => version_1::clear(words, counter, &mut out).map(|s| s.length),
+            (false, STEP_COUNT) => sent(library::count(words, counter, 1, &mut out)),
+            (false, _) => sent(library::clear(words, counter, &mut out)),
+        };
+        match length {
+            Ok(length) => out.truncate(length as usize),
+            Err(number) => return number,
+        }
+        self.made[card].push(out);
+        OK
+    }
+
+    /// The message is converted where its receiver is of the other version.
+    fn deliver(&mut self, receiver: usize, sender: usize, tally: &mut Tally) -> u64 {
+        if receiver.max(sender) >= self.words.len() || receiver == sender {
+            return BAD_CARD;
+        }
+        let received = received_from(&self.words[receiver], sender) as usize;
+        let Some(message) = self.made[sender].get(received) else { return NOTHING_WAITING };
+        let [from, to] = [sender, receiver].map(|card| self.is_old[card]);
+        let handed = match (from, to) {
+            (true, false) => converted(message),
+            (false, true) => converted_back(message),
+            _ => message.clone(),
+        };
+        let kind = library::read_message(message).message.kind;
+        tally.note(HANDED[usize::from(from)][usize::from(to)], kind.into());
+        if to {
+            version_1::take(&mut self.words[receiver], &handed).err().unwrap_or(OK)
+        } else {
+            library::take(&mut self.words[receiver], &handed).number
+        }
+    }
+}
+
+/// The whole log at once to version 1, by the library.
+fn converted_back(log: &[u8]) -> Vec<u8> {
+    let mut out = vec![0; log.len()];
+    let Written { number, length } = library::to_version_1(log, &mut out);
+    assert_eq!(number, OK, "{log:?}");
+    out.truncate(length);
+    out
+}
+
+/// `lists` lists of up to `longest` steps on old and new cards together, against cards of version 1
+/// alone: every answer and every word, and at last each card's log, in version 1.
+pub fn together(seed: u64, lists: u64, longest: u64) -> Tally {
+    let mut tally = Tally::default();
+    for case in 0..lists {
+        let mut random = Random::case(seed, case);
+        let (cards, counters) = sizes(&mut random);
+        let mut there = Chassis::fresh(cards, counters, longest as usize * LONGEST_MESSAGE);
+        let is_old: Vec<bool> = (0..cards).map(|_| random.percent(50)).collect();
+        let place = || format!("seed {seed} case {case}, {is_old:?}");
+        let (words, made) = (there.words.clone(), there.made.clone());
+        let mut here = Together { is_old: is_old.clone(), words, made };
+        for _ in 0..random.between(0, longest) {
+            let step = step_of_version_1(&mut random, cards, counters);
+            let (due, number) = (there.step(step), here.step(step, &mut tally));
+            assert_eq!(number, due, "{step:?}: {}", place());
+            assert_eq!(here.words, there.words, "{step:?}: {}", place());
+            tally.note("step", number);
+        }
+        for card in 0..cards {
+            let log = here.made[card].concat();
+            let log = if is_old[card] { log } else { converted_back(&log) };
+            assert_eq!(log, there.log(card), "card {card}: {}", place());
+        }
+    }
+    tally
+}
+
+/// Panics unless every answer was met but that of a full log, and both kinds of message were handed
+/// each way.
+pub fn require_together(tally: &Tally) {
+    tally.require("step", &[OK, BAD_COUNTER, BAD_CARD, BAD_KIND, NOTHING_WAITING]);
+    for name in HANDED.as_flattened() {
+        tally.require(name, &[1, 2]);
+    }
 }
