@@ -3,9 +3,9 @@ use Prim.Native.Nat.{ℕ}
 use mathlib.Core.Path.{_≡_, refl}
 use mathlib.Core.List.{List, [], _∷_, _++_}
 use mathlib.Core.Bool.{Bool}
-use lib.ListN.{length}
+use lib.ListN.{length, replicate}
 use lib.Dec.{eqb}
-use Rattle.protocol.specs.Limits.{bad-row, bad-card, nothing-waiting}
+use Rattle.protocol.specs.Limits.{MAX, bad-replica, bad-row, bad-counter, exhausted, short-output, unreadable, bad-card, repeated, early, implausible, nothing-waiting}
 use Rattle.protocol.specs.Tables.{put}
 use Rattle.protocol.specs.Entry.{cleared}
 use Rattle.protocol.specs.Entry as entry
@@ -16,6 +16,7 @@ use Rattle.protocol.specs.Acceptance.{entry-well-formed, card-well-formed, tabl
 use Rattle.protocol.specs.Chassis.{present-entries, clear-message}
 use Rattle.protocol.specs.Store.{cleared-words, taken-words, shown}
 use Rattle.wire.specs.Number.{number-at, bytes-of}
+use Rattle.wire.specs.declared.Message as wire
 use Rattle.wire.specs.Message as form
 use Rattle.wire.specs.Message.{header-bytes, increment-bytes, entry-bytes, entries-bytes, clear-bytes, message-bytes, header-in-range, increment-in-range, amount-in-range, clear-in-range, entry-in-range, entries-in-range, unused, in-range, increment-message, entries-at, called-length, message-at, reads, front-length, log-bytes, messages-from}
 use Rattle.conversion.specs.Conversion.{in-version, converted}
@@ -23,7 +24,7 @@ use Rattle.replica_model.specs.Layout.{fresh-words}
 use Rattle.replica_model.specs.Calls as today
 use Rattle.replica_model.specs.Calls.{sizes-in-range, replica-fits, right, take-with}
 use Rattle.replica_model.specs.Format as format
-use Rattle.version_1.specs.Rules.{content, row-well-formed, increment-implausible, plausible, incremented, words-after, send, count-of, take-on}
+use Rattle.version_1.specs.Rules.{content, row-well-formed, increment-implausible, plausible, incremented, words-after, send, count-of, count-on, take-on}
 use Rattle.version_1.specs.Run.{Step, count, clear, deliver, Chassis, fresh, made, delivered, after-deliveries, delivery-numbers, step-on, after-steps, after-run, deliver-steps, by-old-rules, old-numbers, by-new-rules, new-numbers}
 
 -- card 0 counts, card 1 has it and clears, card 0 counts again: card 0's log has its two increments, 36 bytes each
@@ -88,3 +89,41 @@ pub rules-differ : let m = increment-message form.version-1 0 1 0 2 1 0 in
     (take-on ahead (message-bytes m) .answer .number ≡ bad-row) × (today.take-on ahead (message-bytes (in-version form.version-2 m)) .answer .number ≡ 0)
 unfolding put all-below entry.incremented cleared entry-well-formed card-well-formed tables-well-formed all-entries cards-known increment-plausible entry-plausible acceptance.plausible present-entries clear-message cleared-words taken-words shown number-at bytes-of header-bytes increment-bytes entry-bytes entries-bytes clear-bytes message-bytes header-in-range increment-in-range amount-in-range clear-in-range entry-in-range entries-in-range unused in-range increment-message form.clear-message entries-at called-length message-at reads front-length log-bytes messages-from in-version converted fresh-words sizes-in-range replica-fits right today.row-well-formed today.words-after take-with format.content content row-well-formed increment-implausible plausible incremented words-after send count-of take-on made delivered after-deliveries delivery-numbers step-on after-steps
 rules-differ = (refl, refl)
+
+-- What a card of version 1 answers: card 1 of two, with one counter, which has had nothing yet; to messages of card 0, its first unless said.
+abbrev old-number : wire.Message → ℕ
+old-number m = take-on (fresh-words 2 1 1) (message-bytes m) .answer .number
+
+abbrev first-increment : (p start : ℕ) → wire.Message
+first-increment p start = increment-message form.version-1 0 1 0 p start 0
+
+abbrev first-clear : (card c : ℕ) → wire.Message
+first-clear card c = form.clear-message form.version-1 0 1 0 (record { card = card; p = 1; c = c } ∷ [])
+
+-- an increment by 1: p is C + 1 with start, and above 1 and at most C + 1 without; a clear: c is at most C, of its sender and of the card itself
+pub old-takes : (old-number (first-increment 1 1) ≡ 0) × (old-number (first-increment 2 1) ≡ implausible)
+    × (old-number (first-increment 1 0) ≡ implausible) × (old-number (first-increment 2 0) ≡ implausible)
+    × (old-number (first-clear 0 1) ≡ implausible) × (old-number (first-clear 1 1) ≡ implausible)
+    × (old-number (form.clear-message form.version-1 0 1 0 []) ≡ 0)
+unfolding put all-below entry.incremented cleared entry-well-formed card-well-formed tables-well-formed all-entries cards-known increment-plausible entry-plausible acceptance.plausible present-entries clear-message cleared-words taken-words shown number-at bytes-of header-bytes increment-bytes entry-bytes entries-bytes clear-bytes message-bytes header-in-range increment-in-range amount-in-range clear-in-range entry-in-range entries-in-range unused in-range increment-message form.clear-message entries-at called-length message-at reads front-length log-bytes messages-from in-version converted fresh-words sizes-in-range replica-fits right today.row-well-formed today.words-after take-with format.content content row-well-formed increment-implausible plausible incremented words-after send count-of take-on made delivered after-deliveries delivery-numbers step-on after-steps
+old-takes = (refl, refl, refl, refl, refl, refl, refl)
+
+-- and the others: version 2; a counter, a card that is not there, its own; a message that is not the next
+pub old-declines : (old-number (increment-message form.version-2 0 1 0 1 1 1) ≡ unreadable)
+    × (old-number (increment-message form.version-1 0 1 1 1 1 0) ≡ bad-counter)
+    × (old-number (increment-message form.version-1 2 1 0 1 1 0) ≡ bad-card) × (old-number (increment-message form.version-1 1 1 0 1 1 0) ≡ bad-card)
+    × (old-number (first-clear 2 1) ≡ bad-card) × (old-number (increment-message form.version-1 0 2 0 1 1 0) ≡ early)
+    × (take-on (take-on (fresh-words 2 1 1) (message-bytes (first-increment 1 1)) .words) (message-bytes (first-increment 1 1)) .answer .number ≡ repeated)
+    × (take-on [] (message-bytes (first-increment 1 1)) .answer .number ≡ bad-replica)
+unfolding put all-below entry.incremented cleared entry-well-formed card-well-formed tables-well-formed all-entries cards-known increment-plausible entry-plausible acceptance.plausible present-entries clear-message cleared-words taken-words shown number-at bytes-of header-bytes increment-bytes entry-bytes entries-bytes clear-bytes message-bytes header-in-range increment-in-range amount-in-range clear-in-range entry-in-range entries-in-range unused in-range increment-message form.clear-message entries-at called-length message-at reads front-length log-bytes messages-from in-version converted fresh-words sizes-in-range replica-fits right today.row-well-formed today.words-after take-with format.content content row-well-formed increment-implausible plausible incremented words-after send count-of take-on made delivered after-deliveries delivery-numbers step-on after-steps
+old-declines = (refl, refl, refl, refl, refl, refl, refl, refl)
+
+abbrev count-number : List ℕ → (q room : ℕ) → ℕ
+count-number b q room = count-on b q (replicate room 0) .answer .number
+
+-- its count: 36 bytes are enough, 35 are not; no counter 1; and no message more than MAX
+pub old-sends : (count-number (fresh-words 2 1 1) 0 36 ≡ 0) × (count-number (fresh-words 2 1 1) 0 35 ≡ short-output) × (count-number (fresh-words 2 1 1) 1 36 ≡ bad-counter)
+    × (count-number (2 ∷ 1 ∷ 1 ∷ 0 ∷ 0 ∷ 0 ∷ MAX ∷ 0 ∷ 0 ∷ 0 ∷ 0 ∷ 0 ∷ 0 ∷ []) 0 36 ≡ exhausted)
+    × (count-number (2 ∷ 1 ∷ 1 ∷ 0 ∷ 1 ∷ 0 ∷ 0 ∷ 0 ∷ 0 ∷ 0 ∷ 0 ∷ 0 ∷ 0 ∷ []) 0 36 ≡ bad-row)
+unfolding put all-below entry.incremented cleared entry-well-formed card-well-formed tables-well-formed all-entries cards-known increment-plausible entry-plausible acceptance.plausible present-entries clear-message cleared-words taken-words shown number-at bytes-of header-bytes increment-bytes entry-bytes entries-bytes clear-bytes message-bytes header-in-range increment-in-range amount-in-range clear-in-range entry-in-range entries-in-range unused in-range increment-message form.clear-message entries-at called-length message-at reads front-length log-bytes messages-from in-version converted fresh-words sizes-in-range replica-fits right today.row-well-formed today.words-after take-with format.content content row-well-formed increment-implausible plausible incremented words-after send count-of take-on made delivered after-deliveries delivery-numbers step-on after-steps
+old-sends = (refl, refl, refl, refl, refl)
