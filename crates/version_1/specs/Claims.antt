@@ -55,7 +55,7 @@ pub logs-convert : (is-old : ℕ → Bool) (r k L : ℕ) → sizes-in-range r k 
 logs-convert = theorem.logs-convert
 
 -- The accepted steps of any list, as calls of today on cards just opened, are a genuine history; they leave the chassis's words and, as written, its messages in
--- version 2. So every claim on a driver's history holds of such a chassis, and of whatever calls follow.
+-- version 2. So what is claimed of the cards that a driver's history leaves holds of such a chassis, and of whatever calls follow.
 pub is-history : (is-old : ℕ → Bool) (r k L : ℕ) → sizes-in-range r k ≡ true → (steps : List Step)
     → let calls = calls-of is-old r L steps (fresh r k) in
     GenuineHistory r k calls × (cards-after r k calls ≡ cards-of is-old (after-steps is-old r L steps (fresh r k)))
