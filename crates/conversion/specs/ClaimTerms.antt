@@ -33,9 +33,12 @@ AllSame (a ∷ ms) [] = ⊥
 AllSame (a ∷ ms) (b ∷ ns) = Same a b × AllSame ms ns
 
 -- how many of them are increments
+abbrev pub one-if-increment : Message → ℕ
+one-if-increment m = cond (eqb (m .kind) increment-kind) 1 0
+
 unfoldable pub increments : List Message → ℕ
 increments [] = 0
-increments (m ∷ ms) = cond (eqb (m .kind) increment-kind) 1 0 + increments ms
+increments (m ∷ ms) = one-if-increment m + increments ms
 
 -- the bytes that a call has written
 abbrev pub written-part : WriteOutcome → List ℕ

@@ -18,7 +18,7 @@ use Rattle.wire.specs.Message.{version-1, version-2, is-version, has-amount, in
 use Rattle.wire.specs.Claims.{message-bytes-length}
 use Rattle.wire.specs.Bounds.{BodyBounds, IncrementBounds, bounds}
 use Rattle.conversion.specs.Conversion.{in-version, converted, all-by-one, converted-into, to-version-2-checks, to-version-2-on, to-version-1-checks, to-version-1-on}
-use Rattle.conversion.specs.ClaimTerms.{AllOf, Same, AllSame, increments, written-part}
+use Rattle.conversion.specs.ClaimTerms.{AllOf, Same, AllSame, one-if-increment, increments, written-part}
 use Rattle.conversion.specs.LogLaws.{written-is-log, log-is-written}
 
 -- ---- one message
@@ -136,9 +136,6 @@ all-same to (m ∷ ms) = (in-version-same to m, all-same to ms)
 
 -- ---- lengths
 
-abbrev one-if-increment : Message → ℕ
-one-if-increment m = cond (eqb (m .kind) increment-kind) 1 0
-
 length-one-up : (m : Message) → m .version ≡ version-1 → in-range m ≡ true
     → length (message-bytes (in-version version-2 m)) ≡ length (message-bytes m) + int-width * one-if-increment m
 unfolding in-version
@@ -239,12 +236,12 @@ module _ (s out : List ℕ) where
   down-decided = decided (λ o. o .answer .number) _ (λ n. refl) _ refl (to-version-1-checks s out) refl
 
   -- where there is room, a log of version 2 by one is written
-  down-does : is-log version-2 s ≡ true → all-by-one (messages-in version-2 s) ≡ true → length (converted version-2 version-1 s) ≤ length out
+  pub down-does : is-log version-2 s ≡ true → all-by-one (messages-in version-2 s) ≡ true → length (converted version-2 version-1 s) ≤ length out
       → to-version-1-on s out ≡ converted-into version-2 version-1 s out
   unfolding to-version-1-on
   down-does log one room = rw (log, one, le-leb (length (converted version-2 version-1 s)) (length out) room)
 
-  up-does : is-log version-1 s ≡ true → length (converted version-1 version-2 s) ≤ length out → to-version-2-on s out ≡ converted-into version-1 version-2 s out
+  pub up-does : is-log version-1 s ≡ true → length (converted version-1 version-2 s) ≤ length out → to-version-2-on s out ≡ converted-into version-1 version-2 s out
   unfolding to-version-2-on
   up-does log room = rw (log, le-leb (length (converted version-1 version-2 s)) (length out) room)
 

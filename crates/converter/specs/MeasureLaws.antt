@@ -1,7 +1,7 @@
 -- LAWS. A log that is walked and measured, a message at a time.
 use Prim.Native.Nat.{ℕ, _+_, _*_, _≤_, _<_}
 use mathlib.Core.Path.{_≡_, refl, sym, _∙_}
-use mathlib.Core.Bool.{Bool, true, false, cond, _&&_, and-assoc, and-true, false≢true}
+use mathlib.Core.Bool.{Bool, true, false, _&&_, and-assoc, and-true, false≢true}
 use mathlib.Core.List.{List, [], _∷_}
 use native.Mathlib.Omega.{arith}
 use lib.ListN.{length, take, drop, length-drop, drop-of-length-le}
@@ -13,23 +13,19 @@ use Rattle.wire.specs.declared.Message.{Message}
 use Rattle.wire.specs.Message.{increment-kind, clear-kind, kind-at, amount-at, amount-in, increment-message, clear-message, message-at, front-length, log-bytes, messages-from, messages-in, is-log}
 use Rattle.wire.specs.RoundTrips.{read-clear, read-increment}
 use Rattle.conversion.specs.Conversion.{all-by-one}
-use Rattle.conversion.specs.ClaimTerms.{increments}
+use Rattle.conversion.specs.ClaimTerms.{one-if-increment, increments}
 use Rattle.conversion.specs.LogLaws.{bytes-drop, front-there, messages-next}
 use Rattle.converter.specs.FirstLaws.{first-long, no-log, log-rest}
 
 -- ---- one message
 
--- 1 for an increment, 0 for a clear
-abbrev pub counts-one : Message → ℕ
-counts-one m = cond (eqb (m .kind) increment-kind) 1 0
-
 module _ (version : ℕ) (s : List ℕ) where
-  pub seen-clear : int-at s kind-at ≡ clear-kind → (true ≡ leb (message-at version s .amount) 1) × (0 ≡ counts-one (message-at version s))
+  pub seen-clear : int-at s kind-at ≡ clear-kind → (true ≡ leb (message-at version s .amount) 1) × (0 ≡ one-if-increment (message-at version s))
   unfolding clear-message
   seen-clear kind = rw (read-clear version s kind) (refl, refl)
 
   pub seen-increment : (int-at s kind-at ≡ clear-kind → ⊥) → (amount : ℕ) → amount ≡ amount-in version s amount-at
-      → (leb amount 1 ≡ leb (message-at version s .amount) 1) × (1 ≡ counts-one (message-at version s))
+      → (leb amount 1 ≡ leb (message-at version s .amount) 1) × (1 ≡ one-if-increment (message-at version s))
   unfolding increment-message
   seen-increment other amount is = rw (read-increment version s other, is) (refl, refl)
 
@@ -57,17 +53,17 @@ by-one-next : (m : Message) (ms : List Message) → all-by-one (m ∷ ms) ≡ le
 unfolding all-by-one
 by-one-next m ms = refl
 
-increments-next : (m : Message) (ms : List Message) → increments (m ∷ ms) ≡ counts-one m + increments ms
+increments-next : (m : Message) (ms : List Message) → increments (m ∷ ms) ≡ one-if-increment m + increments ms
 unfolding increments
 increments-next m ms = refl
 
-few-more : (m : Message) → counts-one m ≤ 1
+few-more : (m : Message) → one-if-increment m ≤ 1
 few-more m = by-test (eqb (m .kind) increment-kind) (λ t. rw t (omega arith)) (λ f. rw f (omega arith))
 
 module _ (version : ℕ) (log : List ℕ) (by-one : Bool) (count place : ℕ) (h : Walked version log by-one count place) where
   -- the message in front is passed
   pub walk-next : (n : ℕ) (by : Bool) (one : ℕ) → Bytes log → n ≡ front-length version (drop place log) → (n ≡ 0 → ⊥)
-      → by ≡ leb (message-at version (take n (drop place log)) .amount) 1 → one ≡ counts-one (message-at version (take n (drop place log)))
+      → by ≡ leb (message-at version (take n (drop place log)) .amount) 1 → one ≡ one-if-increment (message-at version (take n (drop place log)))
       → Walked version log (by-one && by) (count + one) (place + n)
   walk-next n by one bytes front some small single =
       let s = drop place log in

@@ -2,9 +2,10 @@
 use wire::decode;
 use wire::reader;
 ghost use mathlib.Core.Path.{_≡_};
-ghost use mathlib.Core.Bool.{true, cond};
-ghost use lib.Dec.{leb, eqb};
-ghost use Rattle.wire.specs.Message.{increment-kind, message-at, reads};
+ghost use mathlib.Core.Bool.{true};
+ghost use lib.Dec.{leb};
+ghost use Rattle.wire.specs.Message.{message-at, reads};
+ghost use Rattle.conversion.specs.ClaimTerms.{one-if-increment};
 ghost use Rattle.converter.specs.MeasureLaws.{Measured};
 
 // Whether the bytes are messages of the version end to end; and if they are, whether no amount is above 1, and how many are increments.
@@ -22,7 +23,7 @@ struct Seen {
 
 fn see(message: &[u8], version: u32) -> Seen
     requires { ⌜ reads version (now message) ≡ true ⌝ }
-    ensures { λ a. ⌜ (a .«by_one» ≡ leb (message-at version (now (message .entry)) .amount) 1) × (a .increments ≡ cond (eqb (message-at version (now (message .entry)) .kind) increment-kind) 1 0) ⌝ }
+    ensures { λ a. ⌜ (a .«by_one» ≡ leb (message-at version (now (message .entry)) .amount) 1) × (a .increments ≡ one-if-increment (message-at version (now (message .entry)))) ⌝ }
 {
     let header = reader::header_from(message, 0);
     if header.kind == wire::CLEAR {

@@ -1,7 +1,7 @@
 -- LAWS. What a count by one or a clear answers on a chassis beside the theory's, by the rules of either version: 3, 4 and then 14, each where its cause holds.
 use Prim.Native.Nat.{ℕ, suc, _+_, _-_, _≤_, _<_}
 use mathlib.Core.Path.{_≡_, refl, sym, ap, _∙_}
-use mathlib.Core.Bool.{Bool, true, false, not, cond, _&&_}
+use mathlib.Core.Bool.{Bool, not, cond, _&&_}
 use mathlib.Core.List.{List, [], _∷_}
 use native.Mathlib.Omega.{arith}
 use lib.ListN.{length, replicate, length-replicate}
@@ -13,7 +13,7 @@ use Rattle.protocol.specs.Checks.{Check, or-else, first-failing}
 use Rattle.protocol.specs.ChecksLaws.{decided, first-is}
 use Rattle.protocol.specs.Chassis.{Message, clear-message}
 use Rattle.wire.specs.Message.{increment-length, clear-length, version-1, version-2}
-use Rattle.replica_model.specs.Layout.{cards, counters, own-card, C-of, N-of}
+use Rattle.replica_model.specs.Layout.{cards, C-of, N-of}
 use Rattle.replica_model.specs.Calls as today
 use Rattle.replica_model.specs.Calls.{SendOutcome, not-sent, holders, clear-of}
 use Rattle.replica_model.specs.CallsLaws.{clear-size}

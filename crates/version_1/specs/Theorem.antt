@@ -11,7 +11,8 @@ use Rattle.protocol.specs.Cases.{by-test}
 use Rattle.protocol.specs.Checks.{first-failing}
 use Rattle.protocol.specs.RoundRobin.{Link}
 use Rattle.wire.specs.Message.{version-1, version-2, increment-length, clear-length, log-bytes, messages-in, is-log}
-use Rattle.conversion.specs.Conversion.{converted, all-by-one, converted-into, to-version-2-on, to-version-1-on}
+use Rattle.conversion.specs.Conversion.{converted, converted-into, to-version-2-on, to-version-1-on}
+use Rattle.conversion.specs.ConversionLaws.{up-does, down-does}
 use Rattle.replica_model.specs.Calls as today
 use Rattle.replica_model.specs.Calls.{sizes-in-range, holders}
 use Rattle.replica_model.specs.RowLaws.{sizes}
@@ -36,17 +37,6 @@ run-beside is-old r k L fits steps = steps-beside is-old r k L steps _ (fresh-be
 
 -- ---- its logs convert
 
--- a log of version 1, and one of version 2 whose increments are by one
-goes-up : (log out : List ℕ) → is-log version-1 log ≡ true → length (converted version-1 version-2 log) ≤ length out
-    → to-version-2-on log out ≡ converted-into version-1 version-2 log out
-unfolding to-version-2-on
-goes-up log out is room = rw (is, le-leb (length (converted version-1 version-2 log)) (length out) room)
-
-goes-down : (log out : List ℕ) → is-log version-2 log ≡ true → all-by-one (messages-in version-2 log) ≡ true → length (converted version-2 version-1 log) ≤ length out
-    → to-version-1-on log out ≡ converted-into version-2 version-1 log out
-unfolding to-version-1-on
-goes-down log out is one room = rw (is, one, le-leb (length (converted version-2 version-1 log)) (length out) room)
-
 pub logs-convert : (is-old : ℕ → Bool) (r k L : ℕ) → sizes-in-range r k ≡ true → (steps : List Step) (i : ℕ) (out : List ℕ)
     → let log = after-steps is-old r L steps (fresh r k) .logs i in
     (is-old i ≡ true → length (converted version-1 version-2 log) ≤ length out → to-version-2-on log out ≡ converted-into version-1 version-2 log out)
@@ -54,11 +44,11 @@ pub logs-convert : (is-old : ℕ → Bool) (r k L : ℕ) → sizes-in-range r k 
 logs-convert is-old r k L fits steps i out =
     let now = run-beside is-old r k L fits steps in
     let log = after-steps is-old r L steps (fresh r k) .logs i in (
-      (λ old room. goes-up log out (rw old at (log-is now i)) room),
+      (λ old room. up-does log out (rw old at (log-is now i)) room),
       (λ new room.
           let is = rw new at (converts now i) in
           let one = rw (← is) at (log-by-one i (now .chassis .log i) (all-readable now i) (now .singles i)) in
-          goes-down log out (rw new at (log-is now i)) one room),
+          down-does log out (rw new at (log-is now i)) one room),
     )
 
 -- ---- deliveries behind it

@@ -1,12 +1,12 @@
 -- The invariant: so many eights stand where they stood. The measure: the eights left.
 use borrow.Author.Needs.{needs}
-use mathlib.Core.Path.{_≡_, refl, _∙_}
-use Prim.Native.Nat.{_+_, _-_, _*_, _≤_}
+use mathlib.Core.Path.{_≡_, _∙_}
+use Prim.Native.Nat.{_-_, _*_, _≤_}
 use native.Mathlib.Omega.{arith}
 use lib.ListN.{length, take, drop}
-use lib.Seq.{sets, length-sets}
+use lib.Seq.{sets}
 use denote.Ref.{now}
-use Rattle.wire.specs.Number.{Bytes, hyper-width}
+use Rattle.wire.specs.Number.{hyper-width}
 use Rattle.converter.specs.PutLaws.{eights-next}
 use Rattle.converter.proofs.put.copy_eights.Statement.{statement}
 use Rattle.converter.proofs.put.copy_eights.Tie as tie
