@@ -61,7 +61,7 @@ extern "C" {
 #endif
 
 /* Limits: cards 0 to r - 1, counters 0 to k - 1, with r and k at least 1. */
-#define YELANSUB_MOST_CARDS 16
+#define YELANSUB_MOST_CARDS 12
 #define YELANSUB_MOST_COUNTERS 64
 /* A count is by an amount from 1 to this. */
 #define YELANSUB_MOST_AMOUNT 65535
@@ -133,7 +133,7 @@ uint64_t yelansub_open(uint64_t *words, size_t words_len,
 
 struct yelansub_reading {
     uint64_t number;
-    uint64_t value;        /* units received and not cleared: at most 16 (2^48 - 1) */
+    uint64_t value;        /* units received and not cleared: at most YELANSUB_MAX of each card */
     uint64_t holders;      /* bit j is one if card j has an entry */
     uint64_t holder_count; /* ones in holders */
 };

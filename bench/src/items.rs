@@ -230,12 +230,13 @@ pub fn deliveries() -> Vec<(Item, Item)> {
     let one_by_one: [Work; 2] = [library_deliver_one_by_one, reference_deliver_one_by_one];
     let all = |cards: usize| (cards * (cards - 1) * MADE) as u64;
     let in_turn = ONE_BY_ONE as u64;
+    let most = &format!("all, {CARDS} cards");
     vec![
         item("all, 2 cards", all(2), [|| waiting(2, ALL), || waiting(2, 0)], at_once),
         item("all, 4 cards", all(4), [|| waiting(4, ALL), || waiting(4, 0)], at_once),
-        item("all, 16 cards", all(16), [|| waiting(16, ALL), || waiting(16, 0)], at_once),
+        item(most, all(CARDS), [|| waiting(CARDS, ALL), || waiting(CARDS, 0)], at_once),
         item("all of one link", MADE as u64, [|| one_link(ALL), || one_link(0)], at_once),
-        item("1 a call, long logs", in_turn, [in_calls_of_one, || waiting(16, 0)], one_by_one),
+        item("1 a call, long logs", in_turn, [in_calls_of_one, || waiting(CARDS, 0)], one_by_one),
     ]
 }
 
@@ -246,7 +247,7 @@ pub fn none_waiting() -> Item {
     let sides: [(&str, Work); 2] =
         [("library", library_deliver_one_by_one), ("reference", reference_deliver_one_by_one)];
     Item {
-        name: "deliver none, 16 cards".to_string(),
+        name: format!("deliver none, {CARDS} cards"),
         calls: ONE_BY_ONE as u64,
         long: true,
         make: || pump(CARDS, &[], &[], ALL),

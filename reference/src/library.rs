@@ -13,7 +13,7 @@ use crate::message::Entry;
 #[derive(Clone, Copy, Debug, Default, PartialEq, Eq)]
 pub struct Reading {
     pub number: u64,
-    /// At most 16 (2^48 - 1): sixteen decimal digits.
+    /// At most `MAX` of each card: sixteen decimal digits.
     pub value: u64,
     pub holders: u64,
     pub holder_count: u64,

@@ -3,7 +3,7 @@
 //! replica stand is in `replica`, the fields of a message in `message`.
 
 /// Cards of a chassis, and entries of a clear.
-pub const MOST_CARDS: usize = 16;
+pub const MOST_CARDS: usize = 12;
 pub const MOST_COUNTERS: usize = 64;
 /// The largest amount of a count; the least is 1.
 pub const MOST_AMOUNT: u64 = 65_535;

@@ -17,6 +17,8 @@ use yelansub_reference::{library, message};
 
 const CARDS: u64 = MOST_CARDS as u64;
 const COUNTERS: u64 = MOST_COUNTERS as u64;
+/// The last card of the largest chassis.
+const LAST: u32 = MOST_CARDS as u32 - 1;
 
 // ---- a call on both sides, from the same words and bytes
 
@@ -180,6 +182,13 @@ fn heads() -> Vec<([u64; 3], bool)> {
     list
 }
 
+/// A fresh replica of these numbers, in range or not.
+fn words_of(cards: u64, counters: u64, own: u64) -> Vec<u64> {
+    let mut words = vec![0; replica_words(cards as usize, counters as usize)];
+    (words[CARDS_AT], words[COUNTERS_AT], words[OWN_AT]) = (cards, counters, own);
+    words
+}
+
 #[test]
 fn a_replica_is_opened_within_the_limits_and_with_its_length() {
     for ([cards, counters, own], right) in heads() {
@@ -194,9 +203,8 @@ fn a_replica_is_opened_within_the_limits_and_with_its_length() {
 #[test]
 fn words_are_a_replica_within_the_limits_and_with_its_length() {
     for ([cards, counters, own], right) in heads() {
-        let len = replica_words(cards as usize, counters as usize);
-        let mut words = vec![0; len];
-        (words[CARDS_AT], words[COUNTERS_AT], words[OWN_AT]) = (cards, counters, own);
+        let mut words = words_of(cards, counters, own);
+        let len = words.len();
         let due = if right { OK } else { BAD_REPLICA };
         assert_eq!(read(&words, 0).number, due, "{cards} {counters} {own}");
         for call in &SENDING {
@@ -474,7 +482,7 @@ fn the_last_units_of_a_card() {
     }
 }
 
-/// What sixteen cards can have counted at most; the own card, which is card 0, has counted `own`.
+/// What the most cards can have counted at most; the own card, which is card 0, has counted `own`.
 fn all_counted(own: u64) -> Vec<u64> {
     let mut words = vec![0; replica_words(MOST_CARDS, 1)];
     assert_eq!(library::open(&mut words, CARDS, 1, 0), OK);
@@ -705,8 +713,8 @@ fn clears_that_can_come_next() {
     assert_eq!(take_clear(2, MAX, MAX), OK);
     assert_eq!(take_clear(2, MAX, MAX + 1), UNREADABLE);
     assert_eq!(take_clear(3, 1, 1), BAD_CARD);
-    assert_eq!(take_clear(MOST_CARDS as u32 - 1, 1, 1), BAD_CARD);
-    assert_eq!(take_clear(MOST_CARDS as u32, 1, 1), UNREADABLE);
+    assert_eq!(take_clear(LAST, 1, 1), BAD_CARD);
+    assert_eq!(take_clear(LAST + 1, 1, 1), UNREADABLE);
 }
 
 /// Every number of entries that a clear can have, and one more: made, too long for an output that
@@ -1012,12 +1020,7 @@ fn deliveries_within_the_limits_and_with_their_lengths() {
         if own != 0 {
             continue;
         }
-        let words = (0..cards).flat_map(|own| {
-            let mut words = vec![0; replica_words(cards as usize, counters as usize)];
-            (words[CARDS_AT], words[COUNTERS_AT], words[OWN_AT]) = (cards, counters, own);
-            words
-        });
-        let words = words.collect();
+        let words = (0..cards).flat_map(|own| words_of(cards, counters, own)).collect();
         let lent = Lent { cards, counters, log_bytes: 0, words, logs: Vec::new() };
         let right = (1..=CARDS).contains(&cards) && (1..=COUNTERS).contains(&counters);
         let due = if right { OK } else { BAD_SIZES };
@@ -1260,7 +1263,7 @@ fn end_to_end(drafts: &[Draft]) -> Vec<u8> {
 /// Lists of messages that convert: none, one of each kind and length, and several.
 fn lists() -> Vec<Vec<Draft>> {
     let largest =
-        Draft { sender: 15, sequence: MAX, counter: 63, p: MAX, start: 1, ..next_of_card_0() };
+        Draft { sender: LAST, sequence: MAX, counter: 63, p: MAX, start: 1, ..next_of_card_0() };
     let mut lists = vec![Vec::new(), vec![next_of_card_0()], vec![largest]];
     for entries in 0..=MOST_CARDS as u32 {
         let list: Vec<_> = (0..entries).map(|card| (card, 1, MAX - u64::from(card))).collect();
@@ -1400,7 +1403,7 @@ fn senders_and_sequences_of_a_log_are_not_looked_at() {
         sender: (at * 7 % MOST_CARDS) as u32,
         sequence: sequences[at % sequences.len()],
         counter: (at * 11 % MOST_COUNTERS) as u32,
-        ..if at % 3 == 0 { next_clear_of_card_0(&[(15, MAX, MAX)]) } else { next_of_card_0() }
+        ..if at % 3 == 0 { next_clear_of_card_0(&[(LAST, MAX, MAX)]) } else { next_of_card_0() }
     });
     let list: Vec<Draft> = numbered.collect();
     for call in CONVERTING {
@@ -1450,4 +1453,89 @@ fn refusals_of_a_conversion_in_their_order() {
             assert_eq!(convert(&TO_VERSION_2, &log, room).0, due, "{has:?}, {unread}");
         }
     }
+}
+
+// ---- the largest chassis, in the specification's own numbers
+
+#[test]
+fn twelve_cards_at_the_most() {
+    for (cards, right) in [(11, true), (12, true), (13, false)] {
+        let due = |refusal| if right { OK } else { refusal };
+        for own in [0, cards - 1] {
+            let words = words_of(cards, 1, own);
+            assert_eq!(open(words.len(), cards, 1, own), due(BAD_REPLICA), "{cards}");
+            assert_eq!(read(&words, 0).number, due(BAD_REPLICA), "{cards}");
+            for call in &SENDING {
+                assert_eq!(send(call, &mut words.clone(), 0, 268).number, due(BAD_REPLICA));
+            }
+            let sender = ((own + 1) % cards) as u32;
+            let first = Draft { sender, sequence: 1, p: 1, start: 1, ..next_of_card_0() };
+            assert_eq!(take(&mut words.clone(), &first.bytes()), due(BAD_REPLICA), "{cards}");
+        }
+        assert_eq!(run(cards, 1, 0, &[]).0, due(BAD_SIZES), "{cards}");
+        let words = (0..cards).flat_map(|own| words_of(cards, 1, own)).collect();
+        let lent = Lent { cards, counters: 1, log_bytes: 0, words, logs: Vec::new() };
+        assert_eq!(lent.number_with(|_| {}), due(BAD_SIZES), "{cards}");
+    }
+}
+
+/// The header's struct with these fields; it has no place for a thirteenth entry.
+fn record_of(draft: &Draft) -> library::Message {
+    let Draft { version, kind, sender, sequence, counter, .. } = *draft;
+    let form = library::Message { version, kind, sender, sequence, counter, ..Default::default() };
+    if kind == MESSAGE_INCREMENT {
+        let amount = if version == MESSAGE_VERSION_1 { 0 } else { draft.amount };
+        return library::Message { p: draft.p, start: draft.start, amount, ..form };
+    }
+    let mut form = library::Message { len: draft.entries.len(), ..form };
+    for (entry, (card, p, c)) in form.entries.iter_mut().zip(&draft.entries) {
+        (entry.card, entry.p, entry.c) = (*card, *p, *c);
+    }
+    form
+}
+
+/// In either version, alone and in a log: read, written and converted where it reads, and else 6. A
+/// card of three takes none of them: where it reads, its sender or an entry's card is not there.
+fn reads_in_both_versions(draft: &Draft, reads: bool) {
+    let due = if reads { OK } else { UNREADABLE };
+    for call in CONVERTING {
+        let draft = Draft { version: call.from.number, ..draft.clone() };
+        let (bytes, form) = (draft.bytes(), record_of(&draft));
+        let read = library::read_message(&bytes);
+        assert_eq!(read, messages::reading(message::read_alone(&bytes)), "{draft:?}");
+        assert_eq!(read.number, due, "{draft:?}");
+        assert!(!reads || read.message == form, "{draft:?}");
+        let mut out = vec![9; bytes.len()];
+        assert_eq!(library::write_message(form, &mut out).number, due, "{draft:?}");
+        assert_eq!(out, if reads { bytes.clone() } else { vec![9; bytes.len()] }, "{draft:?}");
+        assert_eq!(convert(&call, &bytes, bytes.len() + 4).0, due, "{draft:?}");
+    }
+    let bytes = draft.bytes();
+    let found = if reads { 0..bytes.len() } else { 0..0 };
+    assert_eq!(chassis::waiting(&bytes, 1), found, "{draft:?}");
+    assert_eq!(library::waiting(&bytes, 1).length as usize, found.len(), "{draft:?}");
+    let due = if reads { BAD_CARD } else { UNREADABLE };
+    assert_eq!(take(&mut replica_of_three(), &bytes), due, "{draft:?}");
+}
+
+#[test]
+fn cards_of_a_message_are_0_to_11() {
+    for (card, reads) in [(11, true), (12, false), (15, false)] {
+        reads_in_both_versions(&Draft { sender: card, ..next_of_card_0() }, reads);
+        reads_in_both_versions(&Draft { sender: card, ..next_clear_of_card_0(&[]) }, reads);
+        reads_in_both_versions(&next_clear_of_card_0(&[(card, 1, 1)]), reads);
+        reads_in_both_versions(&next_clear_of_card_0(&[(0, 1, 1), (card, 1, 1)]), reads);
+    }
+}
+
+/// The longest message is 268 bytes.
+#[test]
+fn a_clear_has_12_entries_at_the_most() {
+    for (entries, length, reads) in [(12, 268, true), (13, 288, false)] {
+        let list: Vec<_> = (0..entries).map(|card| (card, 1, 1)).collect();
+        let draft = next_clear_of_card_0(&list);
+        assert_eq!(draft.bytes().len(), length);
+        reads_in_both_versions(&draft, reads);
+    }
+    assert_eq!(LONGEST_MESSAGE, 268);
 }

@@ -1,5 +1,5 @@
 -- CLAIMS. Calls of deliver pending, computed: after a run of two cards and one counter, with each b; on words and logs that no run left, where take declines a
--- message; and one call for each refusal.
+-- message; one call for each refusal; and the limit of cards, of a run too.
 use Prim.Native.Nat.{ℕ, _*_}
 use mathlib.Core.Path.{_≡_, refl}
 use mathlib.Core.List.{List, [], _∷_, _++_}
@@ -19,7 +19,7 @@ use Rattle.replica_model.specs.Format.{content}
 use Rattle.chassis_model.specs.ListParts.{part, put-part}
 use Rattle.chassis_model.specs.Log.{waiting-part, end-of}
 use Rattle.chassis_model.specs.Run as run
-use Rattle.chassis_model.specs.Run.{action-of, amount-fits, call-of, State, state-of, delivered, acted, state-after, fresh-replicas, chassis-fits}
+use Rattle.chassis_model.specs.Run.{action-of, amount-fits, call-of, State, state-of, delivered, acted, state-after, answers-of, fresh-replicas, chassis-fits, sizes-right, run-on}
 use Rattle.chassis_model.specs.Answers.{fresh-state}
 use Rattle.chassis_model.specs.Pending.{is-numbered, begins-with, log-right, all-waiting, DeliverOutcome, none-delivered, deliver-pending-on}
 use Rattle.chassis_model.specs.AloneExamples.{count}
@@ -84,3 +84,16 @@ pub refusals :
     × (deliver-pending-on 2 1 56 9 odd-words (set odd-logs 3 1) ≡ none-delivered odd-words 15)
 unfolding number-at bytes-of header-bytes entries-bytes clear-bytes message-bytes header-in-range clear-in-range entries-in-range unused in-range increment-message entries-at called-length message-at reads front-length clear-message sizes-in-range all-below entry-well-formed card-well-formed row-well-formed tables-well-formed part waiting-part chassis-fits is-numbered begins-with log-right deliver-pending-on
 refusals = (refl, refl, refl, refl, refl, refl, refl, refl, refl, refl, refl)
+
+-- ---- "r = 12 accepted, 13 is 1, and 11 in a run and in deliver pending."
+
+-- a run of no steps, and a call that may deliver nothing, over r fresh replicas of one counter and logs without room
+abbrev run-of : ℕ → ℕ
+run-of r = run-on r 1 0 [] (fresh-replicas r 1 r) [] [] .number
+
+abbrev deliver-of : ℕ → ℕ
+deliver-of r = deliver-pending-on r 1 0 0 (fresh-replicas r 1 r) [] .answer .number
+
+pub card-limits : ((run-of 11 ≡ 0) × (run-of 12 ≡ 0) × (run-of 13 ≡ 11)) × ((deliver-of 11 ≡ 0) × (deliver-of 12 ≡ 0) × (deliver-of 13 ≡ 11))
+unfolding fresh-words sizes-in-range replica-fits all-below entry-well-formed card-well-formed row-well-formed tables-well-formed part state-after answers-of fresh-replicas chassis-fits sizes-right run-on is-numbered begins-with log-right deliver-pending-on rounds deliver-pending total-waiting
+card-limits = ((refl, refl, refl), (refl, refl, refl))

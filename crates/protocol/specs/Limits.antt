@@ -5,9 +5,9 @@ use Prim.Native.Nat.{ℕ}
 abbrev pub MAX : ℕ
 MAX = 281474976710655
 
--- "r cards, 1 to 16; k counters, 1 to 64; cards and counters numbered from 0."
+-- "r cards, 1 to 12; k counters, 1 to 64; cards and counters numbered from 0."
 abbrev pub most-cards : ℕ
-most-cards = 16
+most-cards = 12
 
 abbrev pub most-counters : ℕ
 most-counters = 64

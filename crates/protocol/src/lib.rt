@@ -4,7 +4,7 @@
 // 2^48 - 1.
 pub const MAX: u64 = 281474976710655;
 
-pub const MOST_CARDS: u64 = 16;
+pub const MOST_CARDS: u64 = 12;
 
 pub const MOST_COUNTERS: u64 = 64;
 

@@ -31,6 +31,7 @@ pub fn replica_words(r: usize, k: usize) -> usize
     HEAD + 2 * r + ENTRY * (r * k)
 }
 
+// Ruled out: a card more than there may be (must-fail/thirteen_cards of crate replica_model).
 pub fn are_sizes_in_range(r: u64, k: u64) -> bool
     ensures { λ a. ⌜ a ≡ sizes-in-range r k ⌝ }
 {

@@ -22,7 +22,7 @@ pub use Rattle.replica_model.specs.declared.Taken.{Taken}
 
 -- ---- what the checks ask
 
--- "r cards, 1 to 16; k counters, 1 to 64"
+-- "r cards, 1 to 12; k counters, 1 to 64"
 unfoldable pub sizes-in-range : ℕ → ℕ → Bool
 sizes-in-range r k = leb 1 r && leb r most-cards && leb 1 k && leb k most-counters
 

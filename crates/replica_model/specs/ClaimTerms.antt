@@ -21,7 +21,7 @@ use Rattle.replica_model.specs.Calls.{right, state, row-well-formed, rea
 
 -- ---- right and well-formed, in plain numbers
 
--- "r cards, 1 to 16; k counters, 1 to 64"
+-- "r cards, 1 to 12; k counters, 1 to 64"
 pub record Sizes (r k : ℕ) : Type 0 where
   pub some-cards : 1 ≤ r
   pub few-cards : r ≤ most-cards

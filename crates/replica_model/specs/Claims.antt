@@ -32,7 +32,7 @@ use Rattle.replica_model.specs.Format.{content, format-2}
 
 -- ---- WELL-FORMED, in plain numbers
 
--- A replica is right exactly if its sizes are 1 to 16 and 1 to 64, the own card is one of its cards and it is as long as those sizes ask.
+-- A replica is right exactly if its sizes are in range, the own card is one of its cards and it is as long as those sizes ask.
 pub right-is : (b : List ℕ) → (right b ≡ true) ↔ Right b
 right-is b = (right-facts b, right-from b)
 
@@ -119,7 +119,7 @@ pub count-message-writable : (b : List ℕ) (q w : ℕ) → right b ≡ true →
     → Writable (sent-as b (count-of b q w)) (increment-length version-2)
 count-message-writable b q w h l a f d room = count-writable b q w (sending-from b q w h l f d room) a
 
--- Where clear makes a message, it is in range, it is 28 bytes long and 20 for each present entry, 348 at most, and its bytes read as it: nor out of clear.
+-- Where clear makes a message, it is in range, it is 28 bytes long and 20 for each present entry, never more than the longest message, and its bytes read as it: nor out of clear.
 pub clear-message-writable : (b : List ℕ) (q : ℕ) → right b ≡ true → q < counters b → row-well-formed b q ≡ true → N-of (cards b) b (own-card b) ≢ MAX
     → Writable (sent-as b (clear-of b q)) (clear-length (holders b q))
 clear-message-writable b q h l w d = clear-writable b q 0 (sending-from b q 0 h l w d (none-more b q h w))

@@ -14,6 +14,7 @@ use Rattle.protocol.specs.Functions.{all-below, count-below}
 use Rattle.protocol.specs.Acceptance.{tables-well-formed, entry-well-formed, card-well-formed, all-entries, cards-known, increment-plausible, entry-plausible, plausible}
 use Rattle.wire.specs.Number.{number-at, bytes-of}
 use Rattle.wire.specs.Message as form
+use Rattle.wire.specs.declared.Message.{Message}
 use Rattle.wire.specs.Message.{version-1, version-2, header-bytes, increment-bytes, entry-bytes, entries-bytes, clear-bytes, message-bytes, header-in-range, amount-in-range, increment-in-range, clear-in-range, entry-in-range, entries-in-range, unused, in-range, increment-message, entries-at, called-length, message-at, reads}
 use Rattle.replica_model.specs.Layout.{replica-length, C-of, N-of, entry-of, fresh-words}
 use Rattle.replica_model.specs.Calls.{replica-fits, words-after, send-with, take-with, sizes-in-range, right, row-well-formed, open-on, reading, is-quiet, read-on, count-on, clear-on, read-and-clear-on, take-on}
@@ -22,9 +23,13 @@ use Rattle.replica_model.specs.Format.{content}
 room : ℕ → List ℕ
 room n = replicate n 0
 
--- card 1 of two, with two counters: what it answers to card 0's first increment with another sequence
-answer-to : List ℕ → ℕ → ℕ
-answer-to b sequence = take-on b (message-bytes (increment-message version-2 0 sequence 0 1 1 1)) .answer .number
+-- the number that a take of the message answers
+answer-to : List ℕ → Message → ℕ
+answer-to b m = take-on b (message-bytes m) .answer .number
+
+-- card 0's first increment with another sequence
+numbered : ℕ → Message
+numbered sequence = increment-message version-2 0 sequence 0 1 1 1
 
 -- "Clear on a fresh replica: 28 bytes, N 1, C 0."
 clear-on-fresh : Bool
@@ -37,8 +42,8 @@ clear-on-fresh =
 sequences : Bool
 sequences =
     let b = fresh-words 2 2 1 in
-    let taken = take-on b (message-bytes (increment-message version-2 0 1 0 1 1 1)) in
-    eqb (answer-to b 0) 6 && eqb (answer-to b 2) 9 && eqb (taken .answer .number) 0 && eqb (answer-to (taken .words) 1) 8
+    let taken = take-on b (message-bytes (numbered 1)) in
+    eqb (answer-to b (numbered 0)) 6 && eqb (answer-to b (numbered 2)) 9 && eqb (taken .answer .number) 0 && eqb (answer-to (taken .words) (numbered 1)) 8
 
 -- "39 output bytes: 5; 40: accepted."
 output-lengths : Bool
@@ -52,6 +57,26 @@ counter-limits =
     let b = room (replica-length 1 64) in
     let c = room (replica-length 1 65) in
     eqb (open-on b 1 64 0 .number) 0 && eqb (open-on c 1 65 0 .number) 1
+
+-- "r = 12 accepted, 13 is 1": by open, and by a read, a count and a take on the words of so many cards
+on-cards : ℕ → ℕ → Bool
+on-cards r number =
+    let b = fresh-words r 1 0 in
+    eqb (open-on (room (replica-length r 1)) r 1 (r - 1) .number) number && eqb (read-on b 0 .number) number
+    && eqb (count-on b 0 1 (room 40) .answer .number) number && eqb (answer-to b (increment-message version-2 1 1 0 1 1 1)) number
+
+card-limits : Bool
+card-limits = on-cards 11 0 && on-cards 12 0 && on-cards 13 1
+
+-- "To a card of two, a sender or an entry's card of 2 or 11 is 7, and one of 12 or 15 is 6."
+named : ℕ → ℕ → Bool
+named card number =
+    let b = fresh-words 2 1 0 in
+    eqb (answer-to b (increment-message version-2 card 1 0 1 1 1)) number
+    && eqb (answer-to b (form.clear-message version-2 1 1 0 (record { card = card; p = 1; c = 1 } ∷ []))) number
+
+cards-named : Bool
+cards-named = named 2 7 && named 11 7 && named 12 6 && named 15 6
 
 -- "(1,0,0,1) (1,0,0,1) (1,0,1,1): counter 1 has (3,2,3), value 1."
 third-count : Bool
@@ -121,14 +146,14 @@ three-and-four =
     let f = entry-of 2 taken 0 0 in
     eqb (e .p) 7 && eqb (e .n) 0 && eqb (e .c) 7 && eqb (C-of (second .words) 0) 7 && eqb (N-of 2 (second .words) 0) 2
     && eqb (f .p) 7 && eqb (f .n) 0 && eqb (f .c) 7 && eqb (C-of taken 0) 7 && eqb (N-of 2 taken 0) 2 && eqb (read-on taken 0 .value) 7
-    && eqb (take-on other (message-bytes (increment-message version-2 0 1 0 3 1 2)) .answer .number) 10
-    && eqb (take-on other (message-bytes (increment-message version-2 0 1 0 2 0 2)) .answer .number) 10
-    && eqb (take-on other (message-bytes (increment-message version-1 0 1 0 1 1 0)) .answer .number) 6
+    && eqb (answer-to other (increment-message version-2 0 1 0 3 1 2)) 10
+    && eqb (answer-to other (increment-message version-2 0 1 0 2 0 2)) 10
+    && eqb (answer-to other (increment-message version-1 0 1 0 1 1 0)) 6
 
 pub all-examples : Bool
-all-examples = clear-on-fresh && sequences && output-lengths && counter-limits && third-count && count-clear-count && count-count-read-and-clear && value-0-and-quiet
+all-examples = clear-on-fresh && sequences && output-lengths && card-limits && cards-named && counter-limits && third-count && count-clear-count && count-count-read-and-clear && value-0-and-quiet
     && units-and-messages && amounts && three-and-four
 
 pub examples-hold : all-examples ≡ true
-unfolding all-examples clear-on-fresh sequences output-lengths counter-limits third-count count-clear-count count-count-read-and-clear value-0-and-quiet one-message units-and-messages amounts three-and-four answer-to room sizes-in-range right replica-fits all-below count-below entry-well-formed card-well-formed row-well-formed tables-well-formed open-on reading read-on send-with words-after count-on clear-on read-and-clear-on content all-entries cards-known increment-plausible entry-plausible plausible take-with fresh-words header-bytes increment-bytes entry-bytes entries-bytes clear-bytes message-bytes header-in-range amount-in-range increment-in-range clear-in-range entry-in-range entries-in-range unused in-range increment-message entries-at called-length message-at reads number-at bytes-of cleared-words taken-words shown count-message present-entries clear-message read-value read-holders put sum bits incremented cleared form.clear-message
+unfolding all-examples clear-on-fresh numbered sequences output-lengths on-cards card-limits named cards-named counter-limits third-count count-clear-count count-count-read-and-clear value-0-and-quiet one-message units-and-messages amounts three-and-four answer-to room sizes-in-range right replica-fits all-below count-below entry-well-formed card-well-formed row-well-formed tables-well-formed open-on reading read-on send-with words-after count-on clear-on read-and-clear-on content all-entries cards-known increment-plausible entry-plausible plausible take-with fresh-words header-bytes increment-bytes entry-bytes entries-bytes clear-bytes message-bytes header-in-range amount-in-range increment-in-range clear-in-range entry-in-range entries-in-range unused in-range increment-message entries-at called-length message-at reads number-at bytes-of cleared-words taken-words shown count-message present-entries clear-message read-value read-holders put sum bits incremented cleared form.clear-message
 examples-hold = refl

@@ -1,4 +1,4 @@
--- CLAIMS. Numbers as decimal text, computed on the definitions: 0, 10, MAX, sixteen times MAX, the largest word; and texts that are plain or not.
+-- CLAIMS. Numbers as decimal text, computed on the definitions: 0, 10, MAX, the largest of sixteen digits, the largest word; and texts that are plain or not.
 use mathlib.Core.Path.{_≡_, refl}
 use mathlib.Core.Bool.{true, false}
 use mathlib.Core.List.{[], _∷_}
@@ -8,7 +8,7 @@ pub decimals : (decimal 0 ≡ 48 ∷ [])
     × (decimal 9 ≡ 57 ∷ [])
     × (decimal 10 ≡ 49 ∷ 48 ∷ [])
     × (decimal 281474976710655 ≡ 50 ∷ 56 ∷ 49 ∷ 52 ∷ 55 ∷ 52 ∷ 57 ∷ 55 ∷ 54 ∷ 55 ∷ 49 ∷ 48 ∷ 54 ∷ 53 ∷ 53 ∷ [])
-    × (decimal 4503599627370480 ≡ 52 ∷ 53 ∷ 48 ∷ 51 ∷ 53 ∷ 57 ∷ 57 ∷ 54 ∷ 50 ∷ 55 ∷ 51 ∷ 55 ∷ 48 ∷ 52 ∷ 56 ∷ 48 ∷ [])
+    × (decimal 9999999999999999 ≡ 57 ∷ 57 ∷ 57 ∷ 57 ∷ 57 ∷ 57 ∷ 57 ∷ 57 ∷ 57 ∷ 57 ∷ 57 ∷ 57 ∷ 57 ∷ 57 ∷ 57 ∷ 57 ∷ [])
     × (decimal 18446744073709551615 ≡ 49 ∷ 56 ∷ 52 ∷ 52 ∷ 54 ∷ 55 ∷ 52 ∷ 52 ∷ 48 ∷ 55 ∷ 51 ∷ 55 ∷ 48 ∷ 57 ∷ 53 ∷ 53 ∷ 49 ∷ 54 ∷ 49 ∷ 53 ∷ [])
 unfolding digits
 decimals = (refl, refl, refl, refl, refl, refl)

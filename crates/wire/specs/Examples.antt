@@ -1,9 +1,9 @@
--- CLAIMS. Worked examples, computed: the first increment of SPECIFICATION 10 and what it is in version 2, clears of no entry, of one and of the most, and bytes that do not read.
+-- CLAIMS. Worked examples, computed: the first increment of SPECIFICATION 10 and what it is in version 2, clears of no entry, of one and of the most, the limits at their edges, and bytes that do not read.
 use mathlib.Core.Path.{_≡_, refl}
 use mathlib.Core.List.{List, [], _∷_, _++_}
 use Prim.Native.Nat.{ℕ, zero, suc, _+_}
 use lib.ListN.{length, drop}
-use Rattle.protocol.specs.Limits.{most-cards, unreadable}
+use Rattle.protocol.specs.Limits.{unreadable}
 use Rattle.protocol.specs.declared.ClearEntry.{ClearEntry}
 use Rattle.wire.specs.Number.{number-at, bytes-of}
 use Rattle.wire.specs.Message.{Message, version-1, version-2, longest-message, message-bytes, header-bytes, increment-bytes, entry-bytes, entries-bytes, clear-bytes, header-in-range, amount-in-range, increment-in-range, clear-in-range, entry-in-range, entries-in-range, unused, in-range, increment-message, clear-message, entries-at, called-length, message-at, reads, read-message, no-message, front-length}
@@ -78,16 +78,43 @@ pub clear-of-none : message-bytes (a-clear 0) ≡ 0 ∷ 0 ∷ 0 ∷ 2 ∷ 0 ∷ 
 unfolding a-clear entries-to message-bytes clear-bytes header-bytes entries-bytes bytes-of clear-message
 clear-of-none = refl
 
-pub clear-of-one : message-bytes (clear-message version-1 15 1 0 (record { card = 2; p = 3; c = 260 } ∷ []))
-    ≡ 0 ∷ 0 ∷ 0 ∷ 1 ∷ 0 ∷ 0 ∷ 0 ∷ 2 ∷ 0 ∷ 0 ∷ 0 ∷ 15 ∷ 0 ∷ 0 ∷ 0 ∷ 0 ∷ 0 ∷ 0 ∷ 0 ∷ 1 ∷ 0 ∷ 0 ∷ 0 ∷ 0 ∷ 0 ∷ 0 ∷ 0 ∷ 1
+pub clear-of-one : message-bytes (clear-message version-1 11 1 0 (record { card = 2; p = 3; c = 260 } ∷ []))
+    ≡ 0 ∷ 0 ∷ 0 ∷ 1 ∷ 0 ∷ 0 ∷ 0 ∷ 2 ∷ 0 ∷ 0 ∷ 0 ∷ 11 ∷ 0 ∷ 0 ∷ 0 ∷ 0 ∷ 0 ∷ 0 ∷ 0 ∷ 1 ∷ 0 ∷ 0 ∷ 0 ∷ 0 ∷ 0 ∷ 0 ∷ 0 ∷ 1
     ∷ 0 ∷ 0 ∷ 0 ∷ 2 ∷ 0 ∷ 0 ∷ 0 ∷ 0 ∷ 0 ∷ 0 ∷ 0 ∷ 3 ∷ 0 ∷ 0 ∷ 0 ∷ 0 ∷ 0 ∷ 0 ∷ 1 ∷ 4 ∷ []
 unfolding message-bytes clear-bytes header-bytes entries-bytes entry-bytes bytes-of clear-message
 clear-of-one = refl
 
-pub clear-of-most : read-message (message-bytes (a-clear most-cards)) ≡ record { number = 0; message = a-clear most-cards }
-unfolding a-clear entries-to message-bytes clear-bytes header-bytes entries-bytes entry-bytes bytes-of clear-message read-message reads called-length message-at in-range header-in-range clear-in-range entry-in-range entries-in-range unused entries-at number-at increment-message
-clear-of-most = refl
+-- ---- the limits, in both versions
 
-pub clear-of-most-is-longest : length (message-bytes (a-clear most-cards)) ≡ longest-message
-unfolding a-clear entries-to message-bytes clear-bytes header-bytes entries-bytes entry-bytes bytes-of clear-message
-clear-of-most-is-longest = refl
+abbrev number-for : Message → ℕ
+number-for m = read-message (message-bytes m) .number
+
+abbrev an-entry : ℕ → List ClearEntry
+an-entry card = record { card = card; p = 1; c = 1 } ∷ []
+
+-- "sender (unsigned int, 0 to 11)"
+pub senders :
+    ((number-for (increment-message version-1 11 1 0 1 1 0) ≡ 0) × (number-for (increment-message version-2 11 1 0 1 1 1) ≡ 0))
+    × ((number-for (increment-message version-1 12 1 0 1 1 0) ≡ 6) × (number-for (increment-message version-2 12 1 0 1 1 1) ≡ 6))
+    × ((number-for (clear-message version-1 11 1 0 []) ≡ 0) × (number-for (clear-message version-2 11 1 0 []) ≡ 0))
+    × ((number-for (clear-message version-1 12 1 0 []) ≡ 6) × (number-for (clear-message version-2 12 1 0 []) ≡ 6))
+    × ((number-for (clear-message version-1 15 1 0 []) ≡ 6) × (number-for (clear-message version-2 15 1 0 []) ≡ 6))
+unfolding message-bytes increment-bytes clear-bytes header-bytes entries-bytes entry-bytes bytes-of clear-message read-message reads called-length message-at in-range header-in-range amount-in-range increment-in-range clear-in-range entry-in-range entries-in-range unused entries-at number-at increment-message
+senders = ((refl, refl), (refl, refl), (refl, refl), (refl, refl), (refl, refl))
+
+-- "card (unsigned int, 0 to 11)"
+pub entry-cards :
+    ((number-for (clear-message version-1 0 1 0 (an-entry 11)) ≡ 0) × (number-for (clear-message version-2 0 1 0 (an-entry 11)) ≡ 0))
+    × ((number-for (clear-message version-1 0 1 0 (an-entry 12)) ≡ 6) × (number-for (clear-message version-2 0 1 0 (an-entry 12)) ≡ 6))
+    × ((number-for (clear-message version-1 0 1 0 (an-entry 15)) ≡ 6) × (number-for (clear-message version-2 0 1 0 (an-entry 15)) ≡ 6))
+unfolding message-bytes increment-bytes clear-bytes header-bytes entries-bytes entry-bytes bytes-of clear-message read-message reads called-length message-at in-range header-in-range amount-in-range increment-in-range clear-in-range entry-in-range entries-in-range unused entries-at number-at increment-message
+entry-cards = ((refl, refl), (refl, refl), (refl, refl))
+
+-- "A clear of 12 entries has 268 bytes and reads; 13 entries do not."
+pub clear-of-twelve :
+    (read-message (message-bytes (a-clear 12)) ≡ record { number = 0; message = a-clear 12 })
+    × (length (message-bytes (a-clear 12)) ≡ 268)
+    × (longest-message ≡ 268)
+    × refused (message-bytes (a-clear 13))
+unfolding a-clear entries-to message-bytes clear-bytes header-bytes entries-bytes entry-bytes bytes-of clear-message read-message reads called-length message-at in-range header-in-range clear-in-range entry-in-range entries-in-range unused entries-at number-at increment-message
+clear-of-twelve = (refl, refl, refl, refl)

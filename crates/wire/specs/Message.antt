@@ -156,7 +156,7 @@ message-length m = length-of (m .version) (m .kind) (m .len)
 abbrev pub from-one-to : ℕ → ℕ → Bool
 from-one-to most x = leb 1 x && leb x most
 
--- "sender (unsigned int, 0 to 15) .. sequence (unsigned hyper, 1 to MAX .. counter (unsigned int, 0 to 63)"
+-- "sender (unsigned int, 0 to 11) .. sequence (unsigned hyper, 1 to MAX .. counter (unsigned int, 0 to 63)"
 unfoldable pub header-in-range : (version sender sequence counter : ℕ) → Bool
 header-in-range version sender sequence counter =
     is-version version && ltb sender most-cards && from-one-to MAX sequence && ltb counter (counter-bound version)
@@ -169,7 +169,7 @@ amount-in-range version amount = cond (has-amount version) (from-one-to most-amo
 unfoldable pub increment-in-range : (p start : ℕ) → Bool
 increment-in-range p start = from-one-to MAX p && leb start 1
 
--- "e from 0 to 16"
+-- "e from 0 to 12"
 unfoldable pub clear-in-range : (p start amount len : ℕ) → Bool
 clear-in-range p start amount len = eqb p 0 && eqb start 0 && eqb amount 0 && leb len most-cards
 
@@ -180,7 +180,7 @@ body-in-range version kind p start amount len =
     (increment-in-range p start && amount-in-range version amount && eqb len 0)
     (eqb kind clear-kind && clear-in-range p start amount len)
 
--- "card (unsigned int, 0 to 15), p and c (unsigned hypers, 1 <= p <= c <= MAX)"; the card is `low` or above
+-- "card (unsigned int, 0 to 11), p and c (unsigned hypers, 1 <= p <= c <= MAX)"; the card is `low` or above
 unfoldable pub entry-in-range : ℕ → ClearEntry → Bool
 entry-in-range low e = leb low (e .card) && ltb (e .card) most-cards && leb 1 (e .p) && leb (e .p) (e .c) && leb (e .c) MAX
 

@@ -23,6 +23,7 @@ fn from_one(x: u64, most: u64) -> bool
 }
 
 // A header but for its version.
+// Ruled out: cards of a larger chassis (must-fail/sixteen_cards), here and in an entry.
 pub(crate) fn rest_in_range(sender: u32, sequence: u64, counter: u32) -> bool
     ensures { λ r. ⌜ r ≡ rest-in-range sender sequence counter ⌝ }
 {

@@ -312,7 +312,7 @@ fn short_log() -> [Message; 5] {
     };
     [
         message(1, 0, increment(1, true)),
-        message(2, 63, clear(&[(2, 3, 9), (15, MAX, MAX)])),
+        message(2, 63, clear(&[(2, 3, 9), (MOST_CARDS as u32 - 1, MAX, MAX)])),
         message(3, 0, increment(2, false)),
         message(4, 5, clear(&[])),
         message(MAX, 1, clear(&[(0, 1, 2)])),

@@ -10,7 +10,7 @@ use Rattle.wire.specs.Message.{no-entry}
 use Rattle.replica_model.specs.Layout.{counters}
 use Rattle.replica.specs.WordsLaws.{row-C, row-N}
 use Rattle.replica.specs.Effects.{Clearing, clearing-begins, next-card, clearing-turn, clearing-ends, clear-taken}
-use Rattle.replica.proofs.Entries.{sixteen}
+use Rattle.wire.proofs.MessageArray.{array-full}
 use Rattle.replica.proofs.effect.apply_clear.Statement.{statement}
 use Rattle.replica.proofs.effect.apply_clear.Tie as tie
 
@@ -24,7 +24,7 @@ abbrev μ-loop : tie.MeasureT-loop
 entries-long : (c : tie.Start Inv-loop μ-loop) → let m = c .args .t5 in length (take (m .len) (m .entries)) ≡ m .len
 entries-long c =
     let m = c .args .t5 in
-    let full = sixteen m (c .good .1 .1 .1 .1 .0) in
+    let full = array-full m (c .good .1 .1 .1 .1 .0) in
     length-take-le (m .len) (m .entries) (omega arith)
 
 increments-at-requires : tie.Need-increments-at-requires Inv-loop μ-loop
