@@ -68,7 +68,7 @@ on-cards r number =
 card-limits : Bool
 card-limits = on-cards 11 0 && on-cards 12 0 && on-cards 13 1
 
--- "To a card of two, a sender or an entry's card of 2 or 11 is 7, and one of 12 or 15 is 6."
+-- "With r = 2, a sender or an entry's card of 2 or 11 is 7, and one of 12 or 15 is 6."
 named : ℕ → ℕ → Bool
 named card number =
     let b = fresh-words 2 1 0 in
