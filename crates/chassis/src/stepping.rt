@@ -40,7 +40,8 @@ pub const ANSWER_WORDS: usize = 2;
 
 const VALUE_AT: usize = 1;
 
-const MOST_CARDS: usize = protocol::MOST_CARDS as usize;
+// The limit as an index.
+pub const MOST_CARDS: usize = protocol::MOST_CARDS as usize;
 
 // One place for each receiver and sender.
 pub const LINKS: usize = MOST_CARDS * MOST_CARDS;

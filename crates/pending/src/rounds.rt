@@ -10,8 +10,6 @@ ghost use Rattle.chassis.specs.StepCodeLaws.{WordsFit};
 ghost use Rattle.lent.specs.Lent.{PumpReady};
 ghost use Rattle.pending.specs.Rounds.{Pushed, Listed, ListedTo, TurnReady, TurnDone, RoundReady, RoundDone, PumpDone};
 
-const MOST_CARDS: usize = protocol::MOST_CARDS as usize;
-
 // Puts a link behind the first `count` of the list if one waits on it. Returns how many there are now.
 fn push(which: usize, waits: bool, count: usize, list: &mut [u64; stepping::LINKS]) -> usize
     requires { ⌜ (count < links) × (length (now list) ≡ links) ⌝ }
@@ -79,8 +77,8 @@ fn turn(
     ensures { λ a. ⌜ TurnDone sizes which (now (words .entry)) (now (logs .entry)) (a .made) (a .kept) (now (words .exit)) (now (places .exit)) ⌝ }
 {
     let at = which as usize;
-    let receiver = at / MOST_CARDS;
-    let sender = at % MOST_CARDS;
+    let receiver = at / stepping::MOST_CARDS;
+    let sender = at % stepping::MOST_CARDS;
     let handed = stepping::hand_over(sizes, receiver, sender, places[at], words, logs);
     if handed.number != 0 {
         return TurnMade { made: 0, kept: 0 };

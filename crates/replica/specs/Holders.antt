@@ -35,7 +35,7 @@ module _ (b : List ℕ) (q : ℕ) where
   unfolding reading read-holders shown
   holders-counted = sym (ones-bits (cards b) (λ j. present (entry-of (cards b) b q j)))
 
-  -- Whatever the words and the counter, the value that a read gives is at most MAX for each of the most cards, and no bit of the holders beyond theirs is one.
+  -- Whatever the words and the counter, the value that a read gives is at most most-cards times MAX, and the holders are below 2 to the power of most-cards.
   pub read-below : (read-on b q .value ≤ most-cards * MAX) × (read-on b q .holders < 2 ^ most-cards)
   unfolding reading read-value shown
   read-below =

@@ -38,7 +38,7 @@ fn refused(number: u64) -> Reading
     }
 }
 
-// Value and holders in one pass over a row that is well-formed: there n is at most p, and the most cards' MAX each fit.
+// Value and holders in one pass over a row that is well-formed: there n is at most p, and MOST_CARDS times MAX fits.
 fn row_reading(words: &[u64], r: usize, q: usize) -> Reading
     requires { ⌜ RowInside (now words) r q × RowOf (now words) q ⌝ }
     ensures { λ a. ⌜ a ≡ reading (now (words .entry)) q ⌝ }

@@ -1,4 +1,4 @@
--- The invariant: the value is the sum and the holders are the mask of the cards so far. Each entry of a well-formed row adds at most MAX, so those of the most cards fit.
+-- The invariant: the value is the sum and the holders are the mask of the cards so far. Each entry of a well-formed row adds at most MAX, and most-cards times MAX fits.
 use Prim.Native.Nat.{ℕ, _*_, _-_, _≤_, _<_}
 use mathlib.Core.Path.{_≡_}
 use mathlib.Core.List.{List}
