@@ -23,6 +23,7 @@ fi
 "$root/tests/division.sh" "$numbers"
 "$root/tests/driver.sh"
 "$root/tests/guards.sh"
+"$root/tests/peer.sh"
 "$root/tests/believe.sh"
 "$root/tests/quotes.sh"
 cd "$root/reference"

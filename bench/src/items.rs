@@ -13,7 +13,7 @@ use yelansub_reference::message::{self, Body, Entries, Entry, Message, Version, 
 use yelansub_reference::random::Random;
 use yelansub_reference::replica::{self, entry_at, increments_at, messages_at};
 
-use crate::rpcgen;
+use crate::{peer, rpcgen};
 
 pub const CARDS: usize = MOST_CARDS;
 pub const COUNTERS: usize = MOST_COUNTERS;
@@ -41,6 +41,8 @@ pub struct State {
     /// Cards of the chassis that is run, and how many deliveries are made there at most.
     cards: usize,
     most: u64,
+    /// The sum of the numbers that calls on one replica have answered.
+    numbers: u64,
 }
 
 impl State {
@@ -67,58 +69,52 @@ pub struct Item {
     pub sides: Vec<(&'static str, Work)>,
 }
 
-fn item(name: &str, make: fn() -> State, library: Work, reference: Work) -> Item {
-    Item {
-        name: name.into(),
-        calls: CALLS,
-        long: false,
-        make,
-        sides: vec![("library", library), ("reference", reference)],
-    }
+/// Work of the library, the reference and, where there is a third, the calls by hand.
+fn item(name: &str, make: fn() -> State, work: &[Work]) -> Item {
+    let sides = ["library", "reference", "C"].into_iter().zip(work.iter().copied()).collect();
+    Item { name: name.into(), calls: CALLS, long: false, make, sides }
 }
 
-/// Against the reference, and against the library's two calls.
+/// Also against the library's two calls.
 fn read_and_clear(name: &str, make: fn() -> State) -> Item {
     let mut item = item(
         &format!("read and clear, {name}"),
         make,
-        |s| each(s, library_read_and_clear),
-        |s| each(s, reference_read_and_clear),
+        &[
+            |s| each(s, library_read_and_clear),
+            |s| each(s, reference_read_and_clear),
+            |s| each(s, c_read_and_clear),
+        ],
     );
     item.sides.push(("read, then clear", |s| each(s, library_read_then_clear)));
     item
 }
 
 pub fn calls() -> Vec<Item> {
-    let all_hold = &format!("read, {CARDS} holders");
-    let all_entries = &format!("{CARDS} entries");
-    let clear_all = &format!("clear, {all_entries}");
-    let take_all = &format!("take a clear of {CARDS}");
-    let last = &format!("waiting, the {CALLS}th");
+    let open: &[Work] =
+        &[|s| each(s, library_open), |s| each(s, reference_open), |s| each(s, c_open)];
+    let read: &[Work] =
+        &[|s| each(s, library_read), |s| each(s, reference_read), |s| each(s, c_read)];
+    let count: &[Work] =
+        &[|s| each(s, library_count), |s| each(s, reference_count), |s| each(s, c_count)];
+    let clear: &[Work] =
+        &[|s| each(s, library_clear), |s| each(s, reference_clear), |s| each(s, c_clear)];
+    let take: &[Work] =
+        &[|s| each(s, library_take), |s| each(s, reference_take), |s| each(s, c_take)];
     vec![
-        item("open", full, |s| each(s, library_open), |s| each(s, reference_open)),
-        item(all_hold, full, |s| each(s, library_read), |s| each(s, reference_read)),
-        item("read, no holder", empty, |s| each(s, library_read), |s| each(s, reference_read)),
-        item("count, going on", full, |s| each(s, library_count), |s| each(s, reference_count)),
-        item("count, start", empty, |s| each(s, library_count), |s| each(s, reference_count)),
-        item(clear_all, full, |s| each(s, library_clear), |s| each(s, reference_clear)),
-        item("clear, no entry", empty, |s| each(s, library_clear), |s| each(s, reference_clear)),
-        read_and_clear(all_entries, full),
+        item("open", full, open),
+        item(&format!("read, {CARDS} holders"), full, read),
+        item("read, no holder", empty, read),
+        item("count, going on", full, count),
+        item("count, start", empty, count),
+        item(&format!("clear, {CARDS} entries"), full, clear),
+        item("clear, no entry", empty, clear),
+        read_and_clear(&format!("{CARDS} entries"), full),
         read_and_clear("no entry", empty),
-        item(
-            "take an increment",
-            increments,
-            |s| each(s, library_take),
-            |s| each(s, reference_take),
-        ),
-        item(take_all, clears, |s| each(s, library_take), |s| each(s, reference_take)),
-        item(
-            "take, repeated (8)",
-            repeated,
-            |s| each(s, library_take),
-            |s| each(s, reference_take),
-        ),
-        item(last, increments, library_waiting, reference_waiting),
+        item("take an increment", increments, take),
+        item(&format!("take a clear of {CARDS}"), clears, take),
+        item("take, repeated (8)", repeated, take),
+        item(&format!("waiting, the {CALLS}th"), increments, &[library_waiting, reference_waiting]),
     ]
 }
 
@@ -255,6 +251,22 @@ pub fn none_waiting() -> Item {
     }
 }
 
+/// One drop from end to end: one count, and its message taken on every other card.
+pub fn drops() -> Vec<Item> {
+    let drop = |cards: usize, make: fn() -> State| {
+        let name = format!("a drop, {cards} cards");
+        item(&name, make, &[library_drops, reference_drops, c_drops])
+    };
+    vec![
+        drop(2, || counted(2)),
+        drop(4, || counted(4)),
+        drop(8, || counted(8)),
+        drop(CARDS, || counted(CARDS)),
+    ]
+}
+
+/// One loop for all sides and items, its calls not unrolled.
+#[inline(never)]
 fn each(state: &mut State, call: fn(&mut State, usize)) {
     for counter in 0..COUNTERS {
         call(state, counter);
@@ -280,6 +292,7 @@ fn blank() -> State {
         answers: Vec::new(),
         cards: CARDS,
         most: 0,
+        numbers: 0,
     }
 }
 
@@ -468,6 +481,22 @@ fn in_rounds(cards: usize, made: &[Step], most: u64) -> Vec<Step> {
     delivered
 }
 
+/// Replicas of so many cards, one behind the other; each card has counted on each counter.
+fn counted(cards: usize) -> State {
+    let mut state = blank();
+    let len = replica_words(cards, COUNTERS);
+    state.cards = cards;
+    state.words = vec![0; cards * len];
+    for (own, words) in state.words.chunks_exact_mut(len).enumerate() {
+        replica::open(words, cards as u64, COUNTERS as u64, own as u64).expect("right sizes");
+    }
+    for first in 0..cards {
+        drop_each(&mut state, first, reference_count_one, reference_take_one);
+    }
+    state.kept = state.words.clone();
+    state
+}
+
 /// A log of this version whose counts are by one. Of each message `entries` says whether it is a
 /// clear, and of how many entries.
 fn log(version: Version, entries: fn(&mut Random) -> Option<usize>) -> State {
@@ -508,46 +537,71 @@ fn some_clear(random: &mut Random) -> Option<usize> {
     (random.below(8) == 0).then(|| random.between(0, CARDS as u64) as usize)
 }
 
-// The calls. Both sides are real calls: nothing is inlined into the loop.
+// The calls. All sides are real calls: nothing is inlined into the loop.
+
+/// The number of the reference's answer.
+fn number<T>(answer: Result<T, u64>) -> u64 {
+    answer.err().unwrap_or(OK)
+}
 
 fn library_open(s: &mut State, _: usize) {
-    black_box(library::open(&mut s.words, CARDS as u64, COUNTERS as u64, 0));
+    s.numbers += black_box(library::open(&mut s.words, CARDS as u64, COUNTERS as u64, 0));
 }
 
 #[inline(never)]
 fn reference_open(s: &mut State, _: usize) {
-    let _ = black_box(replica::open(&mut s.words, CARDS as u64, COUNTERS as u64, 0));
+    s.numbers += number(black_box(replica::open(&mut s.words, CARDS as u64, COUNTERS as u64, 0)));
+}
+
+fn c_open(s: &mut State, _: usize) {
+    s.numbers += black_box(peer::open(&mut s.words, CARDS as u64, COUNTERS as u64, 0));
 }
 
 fn library_read(s: &mut State, counter: usize) {
-    black_box(library::read(&s.words, counter as u64));
+    s.numbers += black_box(library::read(&s.words, counter as u64)).number;
 }
 
 #[inline(never)]
 fn reference_read(s: &mut State, counter: usize) {
-    let _ = black_box(replica::read(&s.words, counter as u64));
+    s.numbers += number(black_box(replica::read(&s.words, counter as u64)));
+}
+
+fn c_read(s: &mut State, counter: usize) {
+    s.numbers += black_box(peer::read(&s.words, counter as u64)).number;
 }
 
 fn library_count(s: &mut State, counter: usize) {
-    black_box(library::count(&mut s.words, counter as u64, AMOUNT.into(), &mut s.out));
+    let (counter, amount) = (counter as u64, AMOUNT.into());
+    s.numbers += black_box(library::count(&mut s.words, counter, amount, &mut s.out)).number;
 }
 
 #[inline(never)]
 fn reference_count(s: &mut State, counter: usize) {
-    let _ = black_box(replica::count(&mut s.words, counter as u64, AMOUNT.into(), &mut s.out));
+    let (counter, amount) = (counter as u64, AMOUNT.into());
+    s.numbers += number(black_box(replica::count(&mut s.words, counter, amount, &mut s.out)));
+}
+
+fn c_count(s: &mut State, counter: usize) {
+    let (counter, amount) = (counter as u64, AMOUNT.into());
+    s.numbers += black_box(peer::count(&mut s.words, counter, amount, &mut s.out)).number;
 }
 
 fn library_clear(s: &mut State, counter: usize) {
-    black_box(library::clear(&mut s.words, counter as u64, &mut s.out));
+    s.numbers += black_box(library::clear(&mut s.words, counter as u64, &mut s.out)).number;
 }
 
 #[inline(never)]
 fn reference_clear(s: &mut State, counter: usize) {
-    let _ = black_box(replica::clear(&mut s.words, counter as u64, &mut s.out));
+    s.numbers += number(black_box(replica::clear(&mut s.words, counter as u64, &mut s.out)));
+}
+
+fn c_clear(s: &mut State, counter: usize) {
+    s.numbers += black_box(peer::clear(&mut s.words, counter as u64, &mut s.out)).number;
 }
 
 fn library_read_and_clear(s: &mut State, counter: usize) {
-    black_box(library::read_and_clear(&mut s.words, counter as u64, &mut s.out));
+    let counter = counter as u64;
+    s.numbers += black_box(library::read_and_clear(&mut s.words, counter, &mut s.out)).number;
 }
 
 fn library_read_then_clear(s: &mut State, counter: usize) {
@@ -557,16 +611,78 @@ fn library_read_then_clear(s: &mut State, counter: usize) {
 
 #[inline(never)]
 fn reference_read_and_clear(s: &mut State, counter: usize) {
-    let _ = black_box(replica::read_and_clear(&mut s.words, counter as u64, &mut s.out));
+    let counter = counter as u64;
+    s.numbers += number(black_box(replica::read_and_clear(&mut s.words, counter, &mut s.out)));
+}
+
+fn c_read_and_clear(s: &mut State, counter: usize) {
+    let counter = counter as u64;
+    s.numbers += black_box(peer::read_and_clear(&mut s.words, counter, &mut s.out)).number;
 }
 
 fn library_take(s: &mut State, counter: usize) {
-    black_box(library::take(&mut s.words, &s.bytes[counter]));
+    s.numbers += black_box(library::take(&mut s.words, &s.bytes[counter])).number;
 }
 
 #[inline(never)]
 fn reference_take(s: &mut State, counter: usize) {
-    let _ = black_box(replica::take(&mut s.words, &s.bytes[counter]));
+    s.numbers += number(black_box(replica::take(&mut s.words, &s.bytes[counter])));
+}
+
+fn c_take(s: &mut State, counter: usize) {
+    s.numbers += black_box(peer::take(&mut s.words, &s.bytes[counter])).number;
+}
+
+/// A drop on each counter, the cards in turn: one loop for all sides. A count gives the number
+/// answered and the length written, a take the number.
+#[inline(never)]
+fn drop_each(
+    s: &mut State,
+    first: usize,
+    count: fn(&mut [u64], u64, &mut [u8]) -> (u64, u64),
+    take: fn(&mut [u64], &[u8]) -> u64,
+) {
+    let len = replica_words(s.cards, COUNTERS);
+    let mut own = first;
+    for counter in 0..COUNTERS as u64 {
+        let (number, length) = count(&mut s.words[own * len..][..len], counter, &mut s.out);
+        s.numbers += number;
+        for card in (0..s.cards).filter(|card| *card != own) {
+            s.numbers += take(&mut s.words[card * len..][..len], &s.out[..length as usize]);
+        }
+        own = if own + 1 == s.cards { 0 } else { own + 1 };
+    }
+}
+
+fn library_drops(s: &mut State) {
+    let count = |words: &mut [u64], counter, out: &mut [u8]| {
+        let sent = library::count(words, counter, 1, out);
+        (sent.number, sent.length)
+    };
+    drop_each(s, 0, count, |words, message| library::take(words, message).number);
+}
+
+#[inline(never)]
+fn reference_count_one(words: &mut [u64], counter: u64, out: &mut [u8]) -> (u64, u64) {
+    let sent = replica::count(words, counter, 1, out);
+    (number(sent), sent.map_or(0, |sent| sent.length))
+}
+
+#[inline(never)]
+fn reference_take_one(words: &mut [u64], message: &[u8]) -> u64 {
+    number(replica::take(words, message))
+}
+
+fn reference_drops(s: &mut State) {
+    drop_each(s, 0, reference_count_one, reference_take_one);
+}
+
+fn c_drops(s: &mut State) {
+    let count = |words: &mut [u64], counter, out: &mut [u8]| {
+        let sent = peer::count(words, counter, 1, out);
+        (sent.number, sent.length)
+    };
+    drop_each(s, 0, count, |words, message| peer::take(words, message).number);
 }
 
 /// The whole batch in one call: the log is walked from its start.
@@ -694,8 +810,13 @@ pub fn conversions_agree(item: &Item) -> bool {
 }
 
 /// What every side of an item leaves behind, for a check that all did the same work.
-pub fn outcome(state: &State) -> (&[u64], &[u8], &[u64]) {
-    (&state.words, &state.logs, &state.answers)
+pub fn outcome(state: &State) -> (&[u64], &[u8], &[u8], &[u64], u64) {
+    (&state.words, &state.out, &state.logs, &state.answers, state.numbers)
+}
+
+/// No call on one replica was refused.
+pub fn all_accepted(state: &State) -> bool {
+    state.numbers == OK
 }
 
 /// The library and rpcgen write every message of the state as the reference's bytes, and read it

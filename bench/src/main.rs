@@ -1,9 +1,10 @@
-//! Times the library beside the Rust reference and rpcgen's C: one process, sides in turn, the
-//! least of many rounds. `yelansub_bench` prints everything; `yelansub_bench one ITEM SIDE N`
+//! Times the library beside the Rust reference, the calls by hand in C and rpcgen's C: one process,
+//! sides in turn, the least of many rounds. `yelansub_bench` prints everything; `yelansub_bench one ITEM SIDE N`
 //! does one thing N times, for callgrind; `yelansub_bench list` names items and sides.
 
 mod clock;
 mod items;
+mod peer;
 mod rpcgen;
 
 use std::time::Duration;
@@ -43,7 +44,17 @@ fn everything() {
     }
     println!("\nThe same, millions of its bytes a second:");
     for (item, times) in conversions.iter().zip(&times) {
-        print_rate(item, times);
+        print_rate(item, times, items::log_bytes(&(item.make)()) as u64, 0);
+    }
+    println!("\nA drop from end to end: one count, and its message taken on every other card:");
+    let drops = items::drops();
+    let times: Vec<Vec<Duration>> = drops.iter().map(|item| least(item, 3_000)).collect();
+    for (item, times) in drops.iter().zip(&times) {
+        print(item, times);
+    }
+    for (item, times) in drops.iter().zip(&times) {
+        let rate = item.calls as f64 / times[0].as_secs_f64();
+        println!("{:38} library {rate:10.0} drops a second on one core", item.name);
     }
     println!();
     let runs = items::runs();
@@ -59,6 +70,7 @@ fn everything() {
         println!("{:38} library {:8.1}   reference {:8.1}", run.name, a_step(0), a_step(1));
     }
     println!("\nA delivery; as a step, what a run takes longer with it:");
+    let mut deliveries = Vec::new();
     for (item, before) in items::deliveries() {
         let rounds = rounds_of_deliveries(&item);
         let (mut times, before) = (least(&item, rounds), least(&before, rounds)[0]);
@@ -68,9 +80,14 @@ fn everything() {
             }
         }
         print(&item, &times);
+        deliveries.push((item, times));
     }
     let none = items::none_waiting();
     print(&none, &least(&none, rounds_of_deliveries(&none)));
+    println!("\nThe same, millions of deliveries a second:");
+    for (item, times) in &deliveries {
+        print_rate(item, times, item.calls, 3);
+    }
 }
 
 fn rounds_of(run: &Item) -> u32 {
@@ -86,13 +103,19 @@ fn rounds_of_deliveries(item: &Item) -> u32 {
 fn check() {
     let deliveries = items::deliveries().into_iter().map(|(item, _)| item);
     let none = [items::none_waiting()];
-    for item in items::calls().into_iter().chain(items::runs()).chain(deliveries).chain(none) {
+    let replicas = items::calls().into_iter().chain(items::drops());
+    for item in replicas.chain(items::runs()).chain(deliveries).chain(none) {
         let mut states: Vec<State> = item.sides.iter().map(|_| (item.make)()).collect();
         for (state, (_, work)) in states.iter_mut().zip(&item.sides) {
             bench_work(state, *work);
         }
         let alike = states.windows(2).all(|p| items::outcome(&p[0]) == items::outcome(&p[1]));
         assert!(alike, "{}: the sides differ", item.name);
+    }
+    for item in items::drops() {
+        let mut state = (item.make)();
+        item.sides.iter().for_each(|(_, work)| bench_work(&mut state, *work));
+        assert!(items::all_accepted(&state), "{}: a call is refused", item.name);
     }
     for item in items::messages() {
         assert!(items::messages_agree(&mut (item.make)()), "{}: the sides differ", item.name);
@@ -131,11 +154,11 @@ fn print(item: &Item, times: &[Duration]) {
     println!();
 }
 
-fn print_rate(item: &Item, times: &[Duration]) {
-    let bytes = items::log_bytes(&(item.make)()) as f64;
+/// Millions a second of what a batch has so many of, with so many decimals.
+fn print_rate(item: &Item, times: &[Duration], of: u64, decimals: usize) {
     print!("{:38}", item.name);
     for ((name, _), time) in item.sides.iter().zip(times) {
-        print!(" {name} {:8.0}", bytes / time.as_secs_f64() / 1e6);
+        print!(" {name} {:8.decimals$}", of as f64 / time.as_secs_f64() / 1e6);
     }
     println!();
 }
@@ -151,6 +174,7 @@ fn all() -> Vec<Item> {
     let mut all = items::calls();
     all.extend(items::messages());
     all.extend(items::conversions());
+    all.extend(items::drops());
     all.extend(items::runs());
     all.extend(items::deliveries().into_iter().flat_map(|(item, before)| [item, before]));
     all.push(items::none_waiting());
