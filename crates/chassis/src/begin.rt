@@ -1,7 +1,7 @@
 // How a run begins: its sizes are right, and every replica is written fresh.
 use crate::stepping;
+use layout::words;
 use replica::open;
-use replica::words;
 ghost use mathlib.Core.Path.{_≡_};
 ghost use Prim.Native.Nat.{_*_, _≤_, _<_};
 ghost use lib.ListN.{length};

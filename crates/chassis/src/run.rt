@@ -3,7 +3,7 @@ use crate::Sizes;
 use crate::begin;
 use crate::stepping;
 use crate::steps;
-use replica::words;
+use layout::words;
 ghost use mathlib.Core.Path.{_≡_};
 ghost use Prim.Native.Nat.{_*_};
 ghost use lib.ListN.{length, replicate};

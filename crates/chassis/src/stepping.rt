@@ -4,11 +4,11 @@ use chassis_model::Action;
 use chassis_model::Making;
 use chassis_model::Step;
 use chassis_model::StepAnswer;
-use replica::clearing;
-use replica::counting;
-use replica::take;
-use replica::words;
+use layout::words;
 use replica_model::Cleared;
+use sending::clearing;
+use sending::counting;
+use taking::take;
 use wire::decode;
 ghost use mathlib.Core.Path.{_≡_};
 ghost use mathlib.Core.Bool.{true, cond};
@@ -103,10 +103,7 @@ fn send(making: Making, replica: &mut [u64], counter: u64, out: &mut [u8]) -> Cl
     ensures { λ a. ⌜ _≡_ {A = ClearedOutcome} (record { answer = a; words = now (replica .exit); out = now (out .exit) }) (call-of making counter (now (replica .entry)) (now (out .entry))) ⌝ }
 {
     match making {
-        Making::Count(amount) => clearing::beside(
-            0,
-            counting::count(replica, counter, amount as u64, out),
-        ),
+        Making::Count(amount) => counting::count_beside(replica, counter, amount as u64, out),
         Making::Clear => clearing::beside(0, clearing::clear(replica, counter, out)),
         Making::ReadAndClear => clearing::read_and_clear(replica, counter, out),
     }

@@ -1,6 +1,6 @@
 // The checks of every replica, before a log is looked at: numbers 1 and 2.
 use chassis::Sizes;
-use replica::words;
+use layout::words;
 ghost use mathlib.Core.Path.{_≡_};
 ghost use mathlib.Core.Bool.{true};
 ghost use Prim.Native.Nat.{_<_};
@@ -38,13 +38,7 @@ fn are_card_rows_well_formed(sizes: Sizes, words: &[u64], card: usize) -> bool
 {
     let from = card * sizes.replica_words;
     let to = from + sizes.replica_words;
-    let mut ok = true;
-    let mut counter: usize = 0;
-    while counter < sizes.counters {
-        ok = ok & words::is_row_well_formed(&words[from..to], sizes.cards, counter);
-        counter += 1;
-    }
-    ok
+    words::are_rows_well_formed(&words[from..to])
 }
 
 // Number 2's test: is every row of every replica well-formed?

@@ -1,6 +1,6 @@
 // The lines of the listing: one for each card and counter, rising.
+use layout::words;
 use replica::read;
-use replica::words;
 use replica_model::Reading;
 ghost use mathlib.Core.Path.{_≡_};
 ghost use Prim.Native.Nat.{_+_, _*_, _≤_, _<_};

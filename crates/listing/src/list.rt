@@ -3,7 +3,7 @@ use crate::lines;
 use chassis::run;
 use chassis::stepping::ANSWER_WORDS;
 use chassis::steps::STEP_BYTES;
-use replica::words;
+use layout::words;
 use wire::number;
 ghost use mathlib.Core.Path.{_≡_};
 ghost use Prim.Native.Nat.{ℕ, _*_, _≤_};

@@ -4,9 +4,9 @@ use chassis::Sizes;
 use chassis::begin;
 use chassis::stepping;
 use chassis_model::Delivered;
+use layout::words;
 use lent::checks;
 use lent::places;
-use replica::words;
 ghost use mathlib.Core.Path.{_≡_};
 ghost use Rattle.chassis_model.specs.Pending.{DeliverOutcome, deliver-pending-on};
 

@@ -59,12 +59,12 @@ zeros e = eqb (e .p) 0 && eqb (e .n) 0 && eqb (e .c) 0
 abbrev ranged : Entry → Bool
 ranged e = leb 1 (e .p) && leb (e .p) (e .c) && leb (e .c) MAX && leb (e .n) (e .p)
 
-entry-facts : (e : Entry) → entry-well-formed e ≡ true → WellFormed MAX e
+pub entry-facts : (e : Entry) → entry-well-formed e ≡ true → WellFormed MAX e
 unfolding entry-well-formed
 entry-facts e h =
     or-cases (zeros e) (ranged e) h (λ a. let f = simp tests at a in omega arith) (λ a. let f = simp tests at a in omega arith)
 
-entry-from : (e : Entry) → WellFormed MAX e → entry-well-formed e ≡ true
+pub entry-from : (e : Entry) → WellFormed MAX e → entry-well-formed e ≡ true
 unfolding entry-well-formed
 entry-from e f =
     by-le 1 (e .p)

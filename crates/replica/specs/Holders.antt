@@ -1,5 +1,5 @@
 -- CLAIMS. What a caller of read may rely on of the holders and of the value's size, beyond the call's own equation (`Calls`).
-use Prim.Native.Nat.{ℕ, _-_, _*_, _/_, _%_, _^_, _≤_, _<_}
+use Prim.Native.Nat.{ℕ, _*_, _/_, _%_, _^_, _≤_, _<_}
 use mathlib.Core.Path.{_≡_, sym}
 use mathlib.Core.List.{List}
 use mathlib.Core.Bool.{cond}
@@ -14,10 +14,9 @@ use Rattle.protocol.specs.Chassis.{read-value, read-holders}
 use Rattle.protocol.specs.StoreLaws.{shown}
 use Rattle.replica_model.specs.Layout.{cards, entry-of}
 use Rattle.replica_model.specs.Calls.{reading, read-on}
-use Rattle.replica_model.specs.ClaimTerms.{RowOf}
 use Rattle.replica_model.specs.RowLaws.{right-facts, row-facts}
 use Rattle.replica_model.specs.CallsLaws.{read-decided}
-use Rattle.replica.specs.Sums.{sum-below, bits-at, bits-below, ones-bits}
+use Rattle.replica.specs.Sums.{held-below, bits-at, bits-below, ones-bits}
 
 module _ (b : List ℕ) (q : ℕ) where
   -- Bit j of the holders is one exactly where card j's entry is present.
@@ -44,11 +43,7 @@ module _ (b : List ℕ) (q : ℕ) where
       let passed = read-decided b q .exact 0 .0 accepted in
       let few : cards b ≤ most-cards = right-facts b (passed .0) .sizes .few-cards in
       rw (read-decided b q .accepted accepted) (
-        omega (arith, value-below (row-facts b q (passed .1 .1 .0)), mul-le-mul-right MAX few),
+        omega (arith, held-below b q (row-facts b q (passed .1 .1 .0)), mul-le-mul-right MAX few),
         lt-of-lt-of-le holders-below (pow-le-pow-right (lit< tt) few),
       ))
       (λ refused. rw (read-decided b q .refused refused) (omega arith, lit< tt))
-    where
-      value-below : RowOf b q → reading b q .value ≤ cards b * MAX
-      value-below row =
-          sum-below (cards b) MAX (λ j. entry-of (cards b) b q j .p - entry-of (cards b) b q j .n) (λ j l. let e = row .entry j l in omega arith)

@@ -2,8 +2,9 @@
 -- by the cards that it holds.
 use Prim.Native.Nat.{ℕ, zero, suc, _+_, _-_, _*_, _/_, _%_, _^_, _≤_, _<_}
 use mathlib.Core.Path.{_≡_, refl, sym, ap, _∙_}
+use mathlib.Core.List.{List}
 use mathlib.Core.Bool.{Bool, true, false, cond}
-use native.Mathlib.Nat.{pow-suc, suc-mul, add-comm, mul-assoc, mul-add-mod-self-right, mod-eq-of-lt}
+use native.Mathlib.Nat.{pow-suc, suc-mul, add-comm, mul-assoc, mul-le-mul-right, mul-add-mod-self-right, mod-add-mod, mod-eq-of-lt}
 use native.Mathlib.Numerals.{add-one}
 use native.Mathlib.Omega.{arith}
 use lib.Bits.{bitOr, or-shifted-r}
@@ -11,9 +12,12 @@ use lib.Count.{ones, ones-cat}
 use lib.Dec.{lit<}
 use mir.Val.{boolByte}
 use lib.Pow.{pow-add, field, high, shl-exact}
+use Rattle.protocol.specs.Limits.{MAX, most-cards}
 use Rattle.protocol.specs.Cases.{by-place}
 use Rattle.protocol.specs.Tables.{sum, bits}
 use Rattle.protocol.specs.Functions.{count-below}
+use Rattle.replica_model.specs.Layout.{cards, entry-of}
+use Rattle.replica_model.specs.ClaimTerms.{RowOf}
 
 -- ---- sums
 
@@ -25,6 +29,23 @@ pub sum-below : (n m : ℕ) (f : ℕ → ℕ) → ((j : ℕ) → j < n → f j �
 unfolding sum
 sum-below zero m f small = omega arith
 sum-below (suc n) m f small = omega (arith, suc-mul n m, small n (omega arith), sum-below n m f (λ j l. small j (omega arith)))
+
+-- one turn of a sum that wraps at m
+pub sum-turn-wrapped : (n m : ℕ) (f : ℕ → ℕ) → (sum n f % m + f n) % m ≡ sum (n + 1) f % m
+sum-turn-wrapped n m f = mod-add-mod (sum n f) m (f n) ∙ rw (sum-turn n f)
+
+-- what card j's entry adds to the value of row q, in a replica of r cards
+abbrev pub held : ℕ → List ℕ → ℕ → ℕ → ℕ
+held r b q j = entry-of r b q j .p - entry-of r b q j .n
+
+module _ (b : List ℕ) (q : ℕ) (row : RowOf b q) where
+  -- each entry of a well-formed row adds at most MAX
+  pub held-below : sum (cards b) (held (cards b) b q) ≤ cards b * MAX
+  held-below = sum-below (cards b) MAX (held (cards b) b q) (λ j l. let e = row .entry j l in omega arith)
+
+  -- most-cards times MAX fits a word
+  pub held-fits : cards b ≤ most-cards → sum (cards b) (held (cards b) b q) % 2 ^ 64 ≡ sum (cards b) (held (cards b) b q)
+  held-fits few = mod-eq-of-lt (omega (arith, held-below, mul-le-mul-right MAX few))
 
 -- ---- masks
 

@@ -1,5 +1,5 @@
 // Opening a replica: a fresh one is written into the caller's words.
-use crate::words;
+use layout::words;
 ghost use mathlib.Core.Path.{_≡_};
 ghost use lib.ListN.{length, replicate};
 ghost use Prim.Native.Nat.{ℕ};

@@ -1,13 +1,13 @@
 // Reading one counter of a replica.
-use crate::words;
+use layout::words;
 use protocol::Entry;
 use replica_model::Reading;
 ghost use mathlib.Core.Path.{_≡_};
 ghost use mathlib.Core.Bool.{cond};
+ghost use Rattle.protocol.specs.Limits.{bad-row};
 ghost use Rattle.protocol.specs.Entry.{present};
-ghost use Rattle.replica_model.specs.Calls.{no-reading, reading, is-quiet, read-on};
-ghost use Rattle.replica_model.specs.ClaimTerms.{RowOf};
-ghost use Rattle.replica.specs.WordsLaws.{RowInside};
+ghost use Rattle.replica_model.specs.Calls.{row-well-formed, no-reading, reading, is-quiet, read-on};
+ghost use Rattle.layout.specs.WordsLaws.{RowInside};
 
 fn is_present(e: Entry) -> bool
     ensures { λ a. ⌜ a ≡ present e ⌝ }
@@ -38,19 +38,31 @@ fn refused(number: u64) -> Reading
     }
 }
 
-// Value and holders in one pass over a row that is well-formed: there n is at most p, and MOST_CARDS times MAX fits.
+// The row is tested, and its value and holders are made, in one pass. Before the pass has ended an entry may be far above MAX, so the sum may wrap; where
+// the row is well-formed it has not, since MOST_CARDS times MAX fits.
 fn row_reading(words: &[u64], r: usize, q: usize) -> Reading
-    requires { ⌜ RowInside (now words) r q × RowOf (now words) q ⌝ }
-    ensures { λ a. ⌜ a ≡ reading (now (words .entry)) q ⌝ }
+    requires { ⌜ RowInside (now words) r q ⌝ }
+    ensures { λ a. ⌜ a ≡ cond (row-well-formed (now (words .entry)) q) (reading (now (words .entry)) q) (no-reading bad-row) ⌝ }
 {
+    let mut high = words::counts_joined(words, r);
     let mut value: u64 = 0;
     let mut holders: u16 = 0;
     let mut j: usize = 0;
     while j < r {
         let e = words::entry_at(words, r, q, j);
-        value = value + (e.p - e.n);
+        if !words::is_entry_ordered(e) {
+            return refused(protocol::BAD_ROW);
+        }
+        high = high | e.c;
+        value = std::num::wrapping_add_u64(value, e.p - e.n);
         holders = holders | (bit_of(is_present(e)) << j);
         j += 1;
+    }
+    if protocol::MAX < high {
+        return refused(protocol::BAD_ROW);
+    }
+    if !words::is_own_entry_counted(words, r, q) {
+        return refused(protocol::BAD_ROW);
     }
     Reading {
         number: 0,
@@ -73,11 +85,7 @@ pub fn read(words: &[u64], counter: u64) -> Reading
     if k <= counter {
         return refused(protocol::BAD_COUNTER);
     }
-    let q = words::index(counter);
-    if words::is_row_well_formed(words, r, q) {
-        return row_reading(words, r, q);
-    }
-    refused(protocol::BAD_ROW)
+    row_reading(words, r, words::index(counter))
 }
 
 // Ruled out: quiet by a value of 0, and quiet by a refused read's zeros (must-fail/quiet_as_value_0 and quiet_though_refused of crate

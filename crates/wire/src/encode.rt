@@ -1,5 +1,5 @@
-// A message to bytes. The public call is `write_message`: it tests before it writes, so a refusal leaves every byte. `put_increment`, `put_clear`
-// and `length_of` are internal functions, for callers that have made the message themselves and know that it is in range.
+// A message to bytes. The public call is `write_message`: it tests before it writes, so a refusal leaves every byte. Callers that make a message from a
+// card's words write its numbers one by one, at the places below.
 use crate::CLEAR;
 use crate::EMPTY_CLEAR_BYTES;
 use crate::ENTRY_BYTES;
@@ -25,29 +25,29 @@ ghost use Rattle.wire.specs.Message.{clear-kind, header-length, incremen
 ghost use Rattle.wire.specs.EntriesLaws.{place-in-range};
 
 // Where the fields are written, the version first: each where the one before it ends.
-const KIND_AT: usize = INT_BYTES;
+pub const KIND_AT: usize = INT_BYTES;
 
-const SENDER_AT: usize = KIND_AT + INT_BYTES;
+pub const SENDER_AT: usize = KIND_AT + INT_BYTES;
 
-const SEQUENCE_AT: usize = SENDER_AT + INT_BYTES;
+pub const SEQUENCE_AT: usize = SENDER_AT + INT_BYTES;
 
-const COUNTER_AT: usize = SEQUENCE_AT + HYPER_BYTES;
+pub const COUNTER_AT: usize = SEQUENCE_AT + HYPER_BYTES;
 
 // Behind the header: of an increment p, start and the amount, of a clear the length word and the entries.
-const P_AT: usize = HEADER_BYTES;
+pub const P_AT: usize = HEADER_BYTES;
 
-const START_AT: usize = P_AT + HYPER_BYTES;
+pub const START_AT: usize = P_AT + HYPER_BYTES;
 
-const AMOUNT_AT: usize = START_AT + INT_BYTES;
+pub const AMOUNT_AT: usize = START_AT + INT_BYTES;
 
-const LEN_AT: usize = HEADER_BYTES;
+pub const LEN_AT: usize = HEADER_BYTES;
 
 const ENTRIES_AT: usize = EMPTY_CLEAR_BYTES;
 
 // Within an entry, the card first.
-const ENTRY_P_AT: usize = INT_BYTES;
+pub const ENTRY_P_AT: usize = INT_BYTES;
 
-const ENTRY_C_AT: usize = ENTRY_P_AT + HYPER_BYTES;
+pub const ENTRY_C_AT: usize = ENTRY_P_AT + HYPER_BYTES;
 
 fn put_header(version: u32, kind: u32, sender: u32, sequence: u64, counter: u32, out: &mut [u8])
     requires { ⌜ header-length ≤ length (now out) ⌝ }
@@ -62,7 +62,7 @@ fn put_header(version: u32, kind: u32, sender: u32, sequence: u64, counter: u32,
 
 // Writes an increment where there is room for it, whatever its numbers.
 // Ruled out: a number at another's place, an amount in version 1, and a byte past the increment that changes.
-pub fn put_increment(
+fn put_increment(
     version: u32,
     sender: u32,
     sequence: u64,
@@ -86,7 +86,7 @@ pub fn put_increment(
 
 // Writes a clear where there is room for it, whatever its numbers.
 // Ruled out: an entry written past the last (must-fail/entry_past_the_last), and entries left out.
-pub fn put_clear(m: Message, out: &mut [u8])
+fn put_clear(m: Message, out: &mut [u8])
     requires { ⌜ (m .kind ≡ clear-kind) × (m .len ≤ most-cards) × (clear-length (m .len) ≤ length (now out)) ⌝ }
     ensures { λ _. ⌜ now (out .exit) ≡ over (message-bytes m) (now (out .entry)) ⌝ }
 {
@@ -116,7 +116,7 @@ fn place_in_range(used: bool, low: u64, entry: ClearEntry) -> bool
 
 // The length of a message of this version and kind with `len` entries.
 // Ruled out: a clear's length without its entries, and another length than the increment's (must-fail/increment_of_37_bytes).
-pub fn length_of(version: u32, kind: u32, len: usize) -> usize
+fn length_of(version: u32, kind: u32, len: usize) -> usize
     requires { ⌜ len ≤ most-cards ⌝ }
     ensures { λ r. ⌜ r ≡ length-of version kind len ⌝ }
 {

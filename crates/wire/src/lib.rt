@@ -27,7 +27,7 @@ pub const PLAIN_INCREMENT_BYTES: usize = 36;
 
 pub const INCREMENT_BYTES: usize = 40;
 
-const EMPTY_CLEAR_BYTES: usize = 28;
+pub const EMPTY_CLEAR_BYTES: usize = 28;
 
 const ENTRY_BYTES: usize = 20;
 
@@ -95,7 +95,7 @@ fn increment_length(version: u32) -> usize
 }
 
 // The length of a clear with so many entries, as many as a length word can say.
-fn clear_length(entries: usize) -> usize
+pub fn clear_length(entries: usize) -> usize
     requires { ⌜ entries < 2 ^ 32 ⌝ }
     ensures { λ r. ⌜ r ≡ clear-length entries ⌝ }
 {

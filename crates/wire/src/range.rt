@@ -24,7 +24,7 @@ fn from_one(x: u64, most: u64) -> bool
 
 // A header but for its version.
 // Ruled out: cards of a larger chassis (must-fail/sixteen_cards), here and in an entry.
-pub(crate) fn rest_in_range(sender: u32, sequence: u64, counter: u32) -> bool
+pub fn rest_in_range(sender: u32, sequence: u64, counter: u32) -> bool
     ensures { λ r. ⌜ r ≡ rest-in-range sender sequence counter ⌝ }
 {
     (sender < MOST_CARDS) & from_one(sequence, protocol::MAX) & (counter < MOST_COUNTERS)
@@ -36,7 +36,7 @@ pub(crate) fn header_in_range(version: u32, sender: u32, sequence: u64, counter:
     is_version(version) & rest_in_range(sender, sequence, counter)
 }
 
-pub(crate) fn increment_in_range(p: u64, start: u32) -> bool
+pub fn increment_in_range(p: u64, start: u32) -> bool
     ensures { λ r. ⌜ r ≡ increment-in-range p start ⌝ }
 {
     from_one(p, protocol::MAX) & (start <= 1)
@@ -77,7 +77,7 @@ pub(crate) fn body_in_range(
 }
 
 // Cards rise strictly: the entry's card is `low` or above.
-pub(crate) fn entry_in_range(low: u64, entry: ClearEntry) -> bool
+pub fn entry_in_range(low: u64, entry: ClearEntry) -> bool
     ensures { λ r. ⌜ r ≡ entry-in-range low entry ⌝ }
 {
     (low <= entry.card as u64)
@@ -93,7 +93,7 @@ pub(crate) fn entry_unused(entry: ClearEntry) -> bool
 }
 
 // The lowest card that may follow.
-pub(crate) fn next_card(entry: ClearEntry) -> u64
+pub fn next_card(entry: ClearEntry) -> u64
     ensures { λ r. ⌜ r ≡ entry .card + 1 ⌝ }
 {
     entry.card as u64 + 1

@@ -43,7 +43,7 @@ pub extern "C" fn yelansub_count(
 ) -> Sent
     ensures { λ a. ⌜ _≡_ {A = SendOutcome} (record { answer = a; words = now (words .exit); out = now (out .exit) }) (count-on (now (words .entry)) counter amount (now (out .entry))) ⌝ }
 {
-    replica::counting::count(words, counter, amount, out)
+    sending::counting::count(words, counter, amount, out)
 }
 
 // Ruled out: a count in place of a clear, and an own replica that is not cleared.
@@ -51,7 +51,7 @@ pub extern "C" fn yelansub_count(
 pub extern "C" fn yelansub_clear(words: &mut [u64], counter: u64, out: &mut [u8]) -> Sent
     ensures { λ a. ⌜ _≡_ {A = SendOutcome} (record { answer = a; words = now (words .exit); out = now (out .exit) }) (clear-on (now (words .entry)) counter (now (out .entry))) ⌝ }
 {
-    replica::clearing::clear(words, counter, out)
+    sending::clearing::clear(words, counter, out)
 }
 
 // Ruled out: a clear without the value (must-fail/cleared_without_value), and an own replica that is not cleared.
@@ -63,7 +63,7 @@ pub extern "C" fn yelansub_read_and_clear(
 ) -> Cleared
     ensures { λ a. ⌜ _≡_ {A = ClearedOutcome} (record { answer = a; words = now (words .exit); out = now (out .exit) }) (read-and-clear-on (now (words .entry)) counter (now (out .entry))) ⌝ }
 {
-    replica::clearing::read_and_clear(words, counter, out)
+    sending::clearing::read_and_clear(words, counter, out)
 }
 
 // Ruled out: a take that keeps the replica, and a number of its own.
@@ -71,7 +71,7 @@ pub extern "C" fn yelansub_read_and_clear(
 pub extern "C" fn yelansub_take(words: &mut [u64], message: &[u8]) -> Taken
     ensures { λ a. ⌜ _≡_ {A = TakeOutcome} (record { answer = a; words = now (words .exit) }) (take-on (now (words .entry)) (now (message .entry))) ⌝ }
 {
-    replica::take::take(words, message)
+    taking::take::take(words, message)
 }
 
 // Ruled out: a reader that only declines (must-fail/read_message_declines), and one that reads a part of the bytes.

@@ -3,7 +3,7 @@ use chassis::Sizes;
 use chassis::begin;
 use chassis::stepping;
 use chassis_model::Step;
-use replica::words;
+use layout::words;
 ghost use mathlib.Core.Path.{_≡_};
 ghost use Prim.Native.Nat.{_+_, _*_, _≤_};
 ghost use lib.ListN.{length};

@@ -9,14 +9,11 @@ use Rattle.chassis.proofs.stepping.send.Tie as tie
 enum-known-making : tie.Need-enum-known-making
 enum-known-making c = search needs
 
-cast-count : tie.Need-cast-count
-cast-count c = search needs
+cast-count-beside : tie.Need-cast-count-beside
+cast-count-beside c = search needs
 
-count-requires : tie.Need-count-requires
-count-requires c κs = search needs
-
-beside-requires : tie.Need-beside-requires
-beside-requires c κs = search needs
+count-beside-requires : tie.Need-count-beside-requires
+count-beside-requires c κs = search needs
 
 enum-told : tie.Need-enum-told
 enum-told c = search needs
@@ -24,8 +21,8 @@ enum-told c = search needs
 clear-requires : tie.Need-clear-requires
 clear-requires c κs = search needs
 
-beside-requires-2 : tie.Need-beside-requires-2
-beside-requires-2 c κs = search needs
+beside-requires : tie.Need-beside-requires
+beside-requires c κs = search needs
 
 enum-told-2 : tie.Need-enum-told-2
 enum-told-2 c = search needs
@@ -42,8 +39,8 @@ same-length-2 c = search needs
 returns : tie.Need-returns
 unfolding call-of
 returns c =
-    let called = c .before .before .before .before .before in
-    rw (called .before .before .before .before .making .given .1, c .beside .ensures) (ap (λ (o : SendOutcome). with-value 0 o) (called .count .ensures))
+    let called = c .before .before .before .before in
+    rw (called .before .before .before .before .making .given .1) (called .count-beside .ensures)
 
 same-length-3 : tie.Need-same-length-3
 same-length-3 c = search needs
@@ -55,7 +52,7 @@ returns-2 : tie.Need-returns-2
 unfolding call-of
 returns-2 c =
     let called = c .before .before .before .before .before in
-    rw (called .before .before .before .enum-told .given .1, c .beside2 .ensures) (ap (λ (o : SendOutcome). with-value 0 o) (called .clear .ensures))
+    rw (called .before .before .before .enum-told .given .1, c .beside .ensures) (ap (λ (o : SendOutcome). with-value 0 o) (called .clear .ensures))
 
 same-length-5 : tie.Need-same-length-5
 same-length-5 c = search needs
@@ -74,12 +71,11 @@ send-spec =
     tie.close
     (tie.spec
     enum-known-making
-    cast-count
-    count-requires
-    beside-requires
+    cast-count-beside
+    count-beside-requires
     enum-told
     clear-requires
-    beside-requires-2
+    beside-requires
     enum-told-2
     read-and-clear-requires
     same-length

@@ -3,7 +3,7 @@ use mathlib.Core.Path.{sym, _∙_}
 use borrow.Author.Needs.{needs}
 use borrow.Author.Tests.{not-true, not-false}
 use Rattle.replica_model.specs.Calls.{open-on}
-use Rattle.replica.specs.WordsLaws.{fits-long}
+use Rattle.layout.specs.WordsLaws.{fits-long}
 use Rattle.replica.proofs.open.open.Statement.{statement}
 use Rattle.replica.proofs.open.open.Tie as tie
 

@@ -1,7 +1,7 @@
 -- Zeros with a head are the fresh words.
 use mathlib.Core.Path.{_∙_}
 use borrow.Author.Needs.{needs}
-use Rattle.replica.specs.WordsLaws.{fresh-made}
+use Rattle.layout.specs.WordsLaws.{fresh-made}
 use Rattle.replica.proofs.open.write_fresh.Statement.{statement}
 use Rattle.replica.proofs.open.write_fresh.Tie as tie
 

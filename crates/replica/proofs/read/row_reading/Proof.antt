@@ -1,69 +1,72 @@
--- The invariant: the value is the sum and the holders are the mask of the cards so far. Each entry of a well-formed row adds at most MAX, and most-cards times MAX fits.
-use Prim.Native.Nat.{ℕ, _*_, _-_, _≤_, _<_}
-use mathlib.Core.Path.{_≡_}
+-- The invariant: the row is checked, the value is the sum, modulo 2^64, and the holders are the mask of the cards so far. Where the check passes, the row is
+-- well-formed, and the sum of a well-formed row fits a word.
+use Prim.Native.Nat.{ℕ, _-_, _%_, _^_}
+use mathlib.Core.Path.{_≡_, sym, _∙_}
 use mathlib.Core.List.{List}
 use mathlib.Core.Bool.{Bool}
 use native.Mathlib.Omega.{arith}
 use lib.Count.{ones-le}
 use borrow.Author.Needs.{needs}
+use borrow.Author.Tests.{not-true, not-false}
 use denote.Ref.{now}
-use Rattle.protocol.specs.Limits.{MAX}
 use Rattle.protocol.specs.Entry.{present}
 use Rattle.protocol.specs.Tables.{sum, bits}
 use Rattle.protocol.specs.Chassis.{read-value, read-holders}
 use Rattle.protocol.specs.StoreLaws.{shown}
 use Rattle.replica_model.specs.Layout.{entry-of}
-use Rattle.replica_model.specs.Calls.{reading}
-use Rattle.protocol.specs.Rows.{WellFormed}
-use Rattle.replica.specs.Sums.{sum-turn, sum-below, bits-turn, bits-below, ones-bits}
+use Rattle.replica_model.specs.Calls.{row-well-formed, reading}
+use Rattle.replica_model.specs.RowLaws.{row-facts}
+use Rattle.layout.specs.WordsLaws.{few-cards}
+use Rattle.layout.specs.RowCheck.{Ordered, Checked, check-begins, check-turn, check-fails, check-too-large, check-decides}
+use Rattle.replica.specs.Sums.{held, held-fits, sum-turn-wrapped, bits-turn, bits-below, ones-bits}
 use Rattle.replica.proofs.read.row_reading.Statement.{statement}
 use Rattle.replica.proofs.read.row_reading.Tie as tie
 
--- what card j's entry adds to the value
-abbrev held : ℕ → List ℕ → ℕ → ℕ → ℕ
-held r b q j = entry-of r b q j .p - entry-of r b q j .n
-
+-- whether card j holds
 abbrev held-by : ℕ → List ℕ → ℕ → ℕ → Bool
 held-by r b q j = present (entry-of r b q j)
 
 abbrev Inv-loop : tie.InvT-loop
-Inv-loop words r q value₀ holders₀ j₀ value holders j = (j ≤ r) × (value ≡ sum j (held r words q)) × (holders ≡ bits j (held-by r words q))
+Inv-loop words r q high₀ value₀ holders₀ j₀ high value holders j =
+    Checked words r q j high × (value ≡ sum j (held r words q) % 2 ^ 64) × (holders ≡ bits j (held-by r words q))
 
 abbrev μ-loop : tie.MeasureT-loop
-μ-loop words r q value₀ holders₀ j₀ value holders j = r - j
+μ-loop words r q high₀ value₀ holders₀ j₀ high value holders j = r - j
+
+counts-joined-requires : tie.Need-counts-joined-requires Inv-loop μ-loop
+counts-joined-requires c κs = search needs
 
 loop-holds : tie.Need-loop-holds Inv-loop μ-loop
 unfolding sum bits
-loop-holds c = search needs
+loop-holds c = (check-begins (c .counts-joined .ensures), search needs, search needs)
 
 entry-at-requires : tie.Need-entry-at-requires Inv-loop μ-loop
 entry-at-requires c κs = search needs
 
--- what the row says of card j's entry
-known : (c : tie.Start Inv-loop μ-loop) (j : ℕ) → j < c .args .r → WellFormed MAX (entry-of (c .args .r) (now (c .args .words)) (c .args .q) j)
-known c j l = rw (c .pre .0 .first) (c .pre .1 .entry j (rw (c .pre .0 .first) at l))
+is-entry-ordered-requires : tie.Need-is-entry-ordered-requires Inv-loop μ-loop
+is-entry-ordered-requires c κs = search needs
 
--- the entry that a turn reads
-entry-small : (c : tie.After-entry-at Inv-loop μ-loop) → WellFormed MAX (c .entry-at .result)
-entry-small c = let at = c .before .before in rw (c .entry-at .ensures) (known (at .before .before) (at .loop .j) (omega arith))
+refused-requires : tie.Need-refused-requires Inv-loop μ-loop
+refused-requires c κs = search needs
 
--- the value so far
-value-small : (c : tie.In-loop Inv-loop μ-loop) → c .before .loop .value ≤ c .before .loop .j * MAX
-value-small c =
-    let at = c .before in
-    let start = at .before .before in
-    rw (at .loop .inv .1)
-    (sum-below (at .loop .j) MAX (held (start .args .r) (now (start .args .words)) (start .args .q))
-    (λ k l. let small = known start k (omega arith) in omega arith))
+returns : tie.Need-returns Inv-loop μ-loop
+returns c =
+    let asked = c .before .before in
+    let found = asked .before in
+    let turn = found .before in
+    rw (check-fails (turn .before .loop .inv .0) (turn .before .before .before .before .pre .first) (turn .loop-test .taken)
+    (rw (found .entry-at .ensures) at (asked .is-entry-ordered .ensures .1 (not-true _ (c .before .if1 .taken)))))
+    (c .refused .ensures)
 
-sub-value : tie.Need-sub-value Inv-loop μ-loop
-sub-value c = let small = entry-small (c .before) in omega arith
+-- past the first test
+is-ordered : (c : tie.Else1 Inv-loop μ-loop) → Ordered (c .before .before .entry-at .result)
+is-ordered c = c .before .is-entry-ordered .ensures .0 (not-false _ (c .if1 .left))
 
-add-value : tie.Need-add-value Inv-loop μ-loop
-add-value c =
-    let small = entry-small (c .before) in
-    let total = value-small (c .before .before) in
-    omega arith
+sub-wrapping-add-u64 : tie.Need-sub-wrapping-add-u64 Inv-loop μ-loop
+sub-wrapping-add-u64 c = is-ordered (c .before .before) .cancelled
+
+wrapping-add-u64-requires : tie.Need-wrapping-add-u64-requires Inv-loop μ-loop
+wrapping-add-u64-requires c κs = search needs
 
 is-present-requires : tie.Need-is-present-requires Inv-loop μ-loop
 is-present-requires c κs = search needs
@@ -85,31 +88,64 @@ loop-less c = search needs
 
 loop-again : tie.Need-loop-again Inv-loop μ-loop
 loop-again c =
-    let found = c .before .before .before in
-    let at = found .before .before in
-    let args = at .before .before .args in
+    let added = c .before .before in
+    let else1 = added .before .before .before in
+    let found = else1 .before .before in
+    let turn = found .before in
+    let at = turn .before in
+    let start = at .before .before .before in
+    let args = start .args in
+    let few = few-cards _ _ _ (start .pre) in
     let e = found .entry-at .ensures in (
-      search needs,
-      rw (at .loop .inv .1, e) (sum-turn (at .loop .j) (held (args .r) (now (args .words)) (args .q))),
-      rw (at .loop .inv .2, c .bit-of .ensures, c .before .is-present .ensures, e) (bits-turn (at .loop .j) (held-by (args .r) (now (args .words)) (args .q)) (omega arith)),
+      rw e (check-turn (at .loop .inv .0) (turn .loop-test .taken) (rw e at (is-ordered else1))),
+      added .wrapping-add-u64 .ensures ∙ rw (at .loop .inv .1, e) (sum-turn-wrapped (at .loop .j) (2 ^ 64) (held (args .r) (now (args .words)) (args .q))),
+      rw (at .loop .inv .2, c .bit-of .ensures, c .before .is-present .ensures, e) (bits-turn (at .loop .j) (held-by (args .r) (now (args .words)) (args .q)) (omega (arith, turn .loop-test .taken))),
     )
+
+refused-requires-2 : tie.Need-refused-requires-2 Inv-loop μ-loop
+refused-requires-2 c κs = search needs
+
+returns-2 : tie.Need-returns-2 Inv-loop μ-loop
+returns-2 c =
+    let ended = c .before .before in
+    let at = ended .before in
+    rw (check-too-large (at .loop .inv .0) (at .before .before .before .pre .first) (ended .loop-test .left) (c .before .if2 .taken)) (c .refused2 .ensures)
+
+is-own-entry-counted-requires : tie.Need-is-own-entry-counted-requires Inv-loop μ-loop
+is-own-entry-counted-requires c κs = search needs
+
+-- past the second test the own entry decides
+decided : (c : tie.After-is-own-entry-counted Inv-loop μ-loop) → let start = c .before .before .before .before .before .before in
+    row-well-formed (now (start .args .words)) (start .args .q) ≡ c .is-own-entry-counted .result
+decided c =
+    let ended = c .before .before in
+    let at = ended .before in
+    rw (c .is-own-entry-counted .ensures) (sym (check-decides (at .loop .inv .0) (at .before .before .before .pre .first) (ended .loop-test .left) (c .before .if2 .left)))
+
+refused-requires-3 : tie.Need-refused-requires-3 Inv-loop μ-loop
+refused-requires-3 c κs = search needs
+
+returns-3 : tie.Need-returns-3 Inv-loop μ-loop
+returns-3 c = rw (decided (c .before .before) ∙ not-true _ (c .before .if3 .taken)) (c .refused3 .ensures)
 
 wide-requires : tie.Need-wide-requires Inv-loop μ-loop
 wide-requires c κs = search needs
 
-cast-t15 : tie.Need-cast-t15 Inv-loop μ-loop
-cast-t15 c =
-    let at = c .before .before in
-    let args = at .before .before .args in
+cast-t19 : tie.Need-cast-t19 Inv-loop μ-loop
+cast-t19 c =
+    let at = c .before .before .before .before .before in
+    let args = at .before .before .before .args in
     omega (arith, ones-le (at .loop .j) (at .loop .holders) (rw (at .loop .inv .2) (bits-below (at .loop .j) (held-by (args .r) (now (args .words)) (args .q)))))
 
-returns : tie.Need-returns Inv-loop μ-loop
+returns-4 : tie.Need-returns-4 Inv-loop μ-loop
 unfolding reading read-value read-holders shown
-returns c =
-    let at = c .before .before in
-    let start = at .before .before in
+returns-4 c =
+    let counted = c .before .before in
+    let at = counted .before .before .before in
+    let start = at .before .before .before in
     let all : at .loop .j ≡ start .args .r = omega arith in
-    rw (c .wide .ensures, at .loop .inv .1, at .loop .inv .2, all, start .pre .0 .first, ones-bits)
+    let formed = decided counted ∙ not-false _ (c .before .if3 .left) in
+    rw (formed, c .wide .ensures, at .loop .inv .1, at .loop .inv .2, all, start .pre .first, held-fits _ _ (row-facts _ _ formed) (start .pre .right .sizes .few-cards), ones-bits)
 
 pub row-reading-spec : {M : Type 1} → statement M
 row-reading-spec =
@@ -117,10 +153,14 @@ row-reading-spec =
     (tie.spec
     Inv-loop
     μ-loop
+    counts-joined-requires
     loop-holds
     entry-at-requires
-    sub-value
-    add-value
+    is-entry-ordered-requires
+    refused-requires
+    returns
+    sub-wrapping-add-u64
+    wrapping-add-u64-requires
     is-present-requires
     bit-of-requires
     cast-holders
@@ -128,6 +168,11 @@ row-reading-spec =
     add-j
     loop-less
     loop-again
+    refused-requires-2
+    returns-2
+    is-own-entry-counted-requires
+    refused-requires-3
+    returns-3
     wide-requires
-    cast-t15
-    returns)
+    cast-t19
+    returns-4)

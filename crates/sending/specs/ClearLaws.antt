@@ -1,0 +1,275 @@
+-- LAWS. A clear that is made entry by entry, as clearing.rt makes it: each present entry is written behind those before it and cleared in place (`Making`), and the
+-- length word comes last.
+use Prim.Native.Nat.{ℕ, zero, suc, _+_, _-_, _*_, _≤_, _<_}
+use mathlib.Core.Path.{_≡_, refl, sym, ap, _∙_}
+use mathlib.Core.Logic.{_≢_}
+use mathlib.Core.List.{List, [], _∷_, _++_, append-nil, append-assoc}
+use mathlib.Core.Bool.{cond}
+use native.Mathlib.Nat.{add-zero, add-suc, suc-mul}
+use native.Mathlib.Numerals.{add-one}
+use native.Mathlib.Omega.{arith}
+use lib.ListN.{length, set, replicate, length-append, List·getD-append}
+use lib.Seq.{sets, length-sets, getD-append-add}
+use Rattle.protocol.specs.Cases.{by-le, by-test}
+use Rattle.protocol.specs.StoredLists.{sets-append, sets-set}
+use Rattle.protocol.specs.Limits.{MAX, most-cards}
+use Rattle.protocol.specs.Rows.{WellFormed}
+use Rattle.protocol.specs.Tables.{sum, put-same-row, put-other}
+use Rattle.protocol.specs.declared.Entry.{Entry}
+use Rattle.protocol.specs.declared.ClearEntry.{ClearEntry}
+use Rattle.protocol.specs.Entry.{present, cleared}
+use Rattle.protocol.specs.Chassis.{Message, clearing, present-entries, read-value}
+use Rattle.protocol.specs.StoreLaws.{Store, CardsBelow, cleared-words, shown}
+use Rattle.wire.specs.Number.{unsigned-int, unsigned-hyper}
+use Rattle.wire.specs.Message as form
+use Rattle.wire.specs.Message.{version-2, clear-kind, header-bytes-of, message-bytes, over, no-entry, entry-length, clear-length, count-at, first-entry-at, entry-p-at, entry-c-at, entry-bytes, entries-bytes}
+use Rattle.wire.specs.NumberLaws.{length-bytes-of}
+use Rattle.wire.specs.EntriesLaws.{length-entries-bytes}
+use Rattle.wire.specs.WriteLaws.{clear-stored}
+use Rattle.replica_model.specs.Layout.{head-of, cards, counters, own-card, replica-length, C-of, N-of, entry-of, set-N, set-entry, layout}
+use Rattle.replica_model.specs.LayoutLaws.{lawful, set-C-same, set-entry-length, same-counters}
+use Rattle.replica_model.specs.Format.{format-2, size-of}
+use Rattle.replica_model.specs.Calls.{SendOutcome, ClearedOutcome, sent-with, clear-of, reading, with-value, words-after, read-and-clear-on}
+use Rattle.replica_model.specs.CallsLaws.{read-and-clear-decided}
+use Rattle.replica_model.specs.Senders.{Sending}
+use Rattle.replica_model.specs.PresentLaws.{present-few, present-below}
+use Rattle.layout.specs.WordsLaws.{RowInside, row-entry}
+use Rattle.layout.specs.Effects.{Receives, clear-taken}
+use Rattle.sending.specs.SendLaws.{entry-sent, row-inside, own-below, sends-receives, clear-made}
+
+-- ---- bytes stored in parts
+
+-- stretches that lie apart, stored in the other order
+sets-swap : (l : List ℕ) (at : ℕ) (xs : List ℕ) (i : ℕ) (ys : List ℕ) → at + length xs ≤ i → sets (sets l i ys) at xs ≡ sets (sets l at xs) i ys
+sets-swap l at xs i [] past = refl
+sets-swap l at xs i (y ∷ ys) past = sets-swap (set l i y) at xs (suc i) ys (omega arith) ∙ rw (sets-set l at xs i y past)
+
+-- the first entries, where others stand behind them
+entries-front : (n : ℕ) (es us : List ClearEntry) → n ≤ length es → entries-bytes n (es ++ us) ≡ entries-bytes n es
+unfolding entries-bytes
+entries-front zero es us l = refl
+entries-front (suc n) es us l = rw (entries-front n es us (omega arith), List·getD-append es us no-entry n l)
+
+-- their bytes, and then those of the others
+entries-joined : (es us : List ClearEntry) (n : ℕ) → entries-bytes (length es + n) (es ++ us) ≡ entries-bytes (length es) es ++ entries-bytes n us
+unfolding entries-bytes
+entries-joined es us zero = rw (add-zero, append-nil) (entries-front (length es) es us (omega arith))
+entries-joined es us (suc n) = rw (add-suc, entries-joined es us n, getD-append-add es us n no-entry) (append-assoc (entries-bytes (length es) es) _ _)
+
+-- entries stored behind others
+entries-behind : (out : List ℕ) (at : ℕ) (es us : List ClearEntry)
+    → sets (sets out at (entries-bytes (length es) es)) (at + entry-length * length es) (entries-bytes (length us) us) ≡ sets out at (entries-bytes (length es + length us) (es ++ us))
+entries-behind out at es us =
+    rw (entries-joined es us (length us), sets-append out at (entries-bytes (length es) es) (entries-bytes (length us) us), length-entries-bytes (length es) es)
+
+-- the three numbers of one entry
+pub entry-written : (out : List ℕ) (at card p c : ℕ)
+    → sets (sets (sets out at (unsigned-int card)) (at + entry-p-at) (unsigned-hyper p)) (at + entry-c-at) (unsigned-hyper c)
+    ≡ sets out at (entries-bytes 1 (record { card = card; p = p; c = c } ∷ []))
+unfolding entries-bytes entry-bytes
+entry-written out at card p c =
+    let e : ClearEntry = record { card = card; p = p; c = c } in
+    let joined : sets (sets (sets out at (unsigned-int card)) (at + entry-p-at) (unsigned-hyper p)) (at + entry-c-at) (unsigned-hyper c) ≡ sets out at (entry-bytes e) = simp (sets-append, length-append, length-bytes-of) in
+    joined
+
+-- the header, the entries behind their length word, and then that
+clear-written : (out : List ℕ) (sender sequence counter : ℕ) (es : List ClearEntry) → clear-length (length es) ≤ length out
+    → sets (sets (sets out 0 (header-bytes-of version-2 clear-kind sender sequence counter)) first-entry-at (entries-bytes (length es) es)) count-at (unsigned-int (length es))
+    ≡ over (message-bytes (form.clear-message version-2 sender sequence counter es)) out
+unfolding form.clear-message
+clear-written out sender sequence counter es room =
+    let none = replicate (most-cards - length es) no-entry in
+    let header = sets out 0 (header-bytes-of version-2 clear-kind sender sequence counter) in
+    let size = unsigned-int (length es) in
+    let short : count-at + length size ≤ first-entry-at = rw length-bytes-of (omega arith) in
+    sets-swap header count-at size first-entry-at (entries-bytes (length es) es) short
+    ∙ clear-stored (form.clear-message version-2 sender sequence counter es) out header (sets header count-at size) _ refl room refl refl
+    (rw (entries-front (length es) es none (omega arith)))
+
+-- ---- entries cleared in parts
+
+-- the first of them, and then the others
+cleared-append : (S : Store) (q : ℕ) (es us : List ClearEntry) (ws : S .Words) → cleared-words S q (es ++ us) ws ≡ cleared-words S q us (cleared-words S q es ws)
+unfolding cleared-words
+cleared-append S q [] us ws = refl
+cleared-append S q (e ∷ es) us ws = cleared-append S q es us _
+
+-- what stays where entries of cards below j are cleared: the row where it is, the head, the length, C, N, and the entries from j on
+pub record Stays (r q j : ℕ) (b b′ : List ℕ) : Type 0 where
+  pub inside : RowInside b′ r q
+  pub head : head-of b′ ≡ head-of b
+  pub long : length b′ ≡ length b
+  pub C-stays : (i : ℕ) → i < r → C-of b′ i ≡ C-of b i
+  pub N-stays : (i : ℕ) → i < r → N-of r b′ i ≡ N-of r b i
+  pub later : (i : ℕ) → j ≤ i → i < r → entry-of r b′ q i ≡ entry-of r b q i
+
+-- by each entry in turn
+cleared-stays : (r k q j : ℕ) → j ≤ r → (es : List ClearEntry) (b : List ℕ) → CardsBelow j es → RowInside b r q → Stays r q j b (cleared-words (layout r k) q es b)
+unfolding cleared-words
+cleared-stays r k q j few [] b on h = record { inside = h; head = refl; long = refl; C-stays = λ i m. refl; N-stays = λ i m. refl; later = λ i l m. refl }
+cleared-stays r k q j few (e ∷ es) b on h =
+    let here : e .card < r = omega (arith, on .0) in
+    let e′ = cleared (e .p) (e .c) (C-of b (e .card)) (entry-of r b q (e .card)) in
+    let law = lawful r (counters b) in
+    let fits : length b ≡ replica-length r (counters b) = rw (h .first) (h .right .fits) in
+    let rest = cleared-stays r k q j few es (set-entry r q (e .card) e′ b) (on .1) (row-entry b r q h (e .card) e′ here) in
+    record {
+      inside = rest .inside;
+      head = rest .head ∙ law .head-entry q (e .card) e′ b here;
+      long = rest .long ∙ set-entry-length r q (e .card) e′ b;
+      C-stays = λ i m. rest .C-stays i m ∙ law .C-entry q (e .card) e′ b here i m;
+      N-stays = λ i m. rest .N-stays i m ∙ law .N-entry q (e .card) e′ b here i m;
+      later = λ i l m.
+          let other : i ≡ e .card → ⊥ = λ same. omega (arith, on .0) in
+          rest .later i l m ∙ law .entry-entry q (e .card) e′ b fits (h .counter) here q i (h .counter) m
+          ∙ put-same-row q _ (entry-of r b) i ∙ put-other (e .card) e′ (entry-of r b q) i other;
+    }
+
+-- ---- the value
+
+-- one number more, and a bound (as crate replica has them)
+sum-turn : (n : ℕ) (f : ℕ → ℕ) → sum n f + f n ≡ sum (n + 1) f
+unfolding sum
+sum-turn n f = rw (add-one n)
+
+sum-below : (n m : ℕ) (f : ℕ → ℕ) → ((j : ℕ) → j < n → f j ≤ m) → sum n f ≤ n * m
+unfolding sum
+sum-below zero m f small = omega arith
+sum-below (suc n) m f small = omega (arith, suc-mul n m, small n (omega arith), sum-below n m f (λ j l. small j (omega arith)))
+
+-- what card j's entry adds to the value
+abbrev pub held : (ℕ → Entry) → ℕ → ℕ
+held row j = row j .p - row j .n
+
+-- ---- the present entries
+
+-- one card more
+present-next : (row : ℕ → Entry) (j : ℕ) → present-entries (j + 1) row ≡ present-entries j row ++ entry-sent j (row j)
+unfolding present-entries
+present-next row j = rw (add-one j)
+
+-- the same, where they are only counted
+pub present-counted : (row : ℕ → Entry) (j : ℕ) (e : Entry) → e ≡ row j → length (present-entries j row) + cond (present e) 1 0 ≡ length (present-entries (j + 1) row)
+present-counted row j e found = rw (found, present-next row j, length-append) (by-test (present (row j)) (λ t. rw t) (λ t. rw t))
+
+-- fewer cards have no more of them
+present-fewer : (row : ℕ → Entry) (j r : ℕ) → j ≤ r → length (present-entries j row) ≤ length (present-entries r row)
+unfolding present-entries
+present-fewer row j zero l = let none : j ≡ 0 = omega arith in rw none (omega arith)
+present-fewer row j (suc r) l =
+    by-le j r (λ m. rw length-append (omega (arith, present-fewer row j r m))) (λ m. let all : j ≡ suc r = omega arith in rw all (omega arith))
+
+-- ---- the loop over the cards
+
+-- j cards passed, over the words b and the output with its header: their present entries are written and cleared, and their values summed up
+pub record Making (b out : List ℕ) (r q j : ℕ) (b′ out′ : List ℕ) (value len : ℕ) : Type 0 where
+  pub within : j ≤ r
+  pub words : b′ ≡ cleared-words (layout r (counters b)) q (present-entries j (entry-of r b q)) b
+  pub count : len ≡ length (present-entries j (entry-of r b q))
+  pub bytes : out′ ≡ sets out first-entry-at (entries-bytes len (present-entries j (entry-of r b q)))
+  pub summed : value ≡ sum j (held (entry-of r b q))
+
+-- none passed
+pub making-begins : (b out : List ℕ) (r q : ℕ) → Making b out r q 0 b out 0 0
+unfolding present-entries cleared-words entries-bytes sum
+making-begins b out r q = record { within = omega arith; words = refl; count = refl; bytes = refl; summed = refl }
+
+-- there are no more entries than cards, and the output is as long as it was
+module _ (b out : List ℕ) (r q j : ℕ) (b′ out′ : List ℕ) (value len : ℕ) (m : Making b out r q j b′ out′ value len) where
+  pub making-few : len ≤ j
+  making-few = rw (m .count) (present-few (entry-of r b q) j)
+
+  pub making-length : length out′ ≡ length out
+  making-length = rw (m .bytes) (simp length-sets)
+
+module _ (b : List ℕ) (r q : ℕ) (first : r ≡ cards b) (h : Sending b q 0) where
+  -- what the row says of card j's entry
+  pub sent-well-formed : (j : ℕ) → j < r → WellFormed MAX (entry-of r b q j)
+  sent-well-formed j l = rw first (h .row .entry j (rw first at l))
+
+  module _ (out : List ℕ) (j : ℕ) (b′ out′ : List ℕ) (value len : ℕ) (m : Making b out r q j b′ out′ value len) where
+    -- what the loop leaves as it was
+    pub making-stays : Stays r q j b b′
+    making-stays = rw (m .words) (cleared-stays r (counters b) q j (m .within) _ b (present-below (entry-of r b q) j j (omega arith)) (row-inside b r q 0 first h))
+
+    -- the value fits
+    pub making-small : value ≤ j * MAX
+    making-small = rw (m .summed) (sum-below j MAX (held (entry-of r b q)) (λ i l. let small = sent-well-formed i (omega (arith, m .within)) in omega arith))
+
+    module _ (l : j < r) where
+      -- the next entry is as it was
+      pub making-next : entry-of r b′ q j ≡ entry-of r b q j
+      making-next = making-stays .later j (omega arith) l
+
+      -- and there is room for it
+      pub making-room : size-of (clear-of b q) ≤ length out → clear-length (len + length (entry-sent j (entry-of r b′ q j))) ≤ length out′
+      making-room room =
+          let row = entry-of r b q in
+          let fits : clear-length (length (present-entries r row)) ≤ length out = rw (← (clear-made b q r first)) at room in
+          let same = ap (λ (e : Entry). length (entry-sent j e)) making-next in
+          let more = ap length (present-next row j) ∙ length-append (present-entries j row) (entry-sent j (row j)) in
+          omega (arith, making-length b out r q j b′ out′ value len m, m .count, present-fewer row (j + 1) r (omega arith))
+
+      -- an entry e that is as it was, written and cleared
+      turn : (e : Entry) → e ≡ entry-of r b q j → (b″ out″ : List ℕ) (len″ : ℕ) → let us = entry-sent j e in
+          len″ ≡ len + length us → b″ ≡ cleared-words (layout r (counters b′)) q us b′ → out″ ≡ sets out′ (clear-length len) (entries-bytes (length us) us)
+          → Making b out r q (j + 1) b″ out″ (value + (e .p - e .n)) len″
+      turn e found b″ out″ len″ counted cleared written =
+          let row = entry-of r b q in
+          let es = present-entries j row in
+          let us = entry-sent j (row j) in
+          let k = same-counters b b′ (making-stays .head) in
+          let long : len″ ≡ length es + length us = counted ∙ rw (found, m .count) in
+          record {
+            within = omega arith;
+            words = cleared ∙ rw (found, k, m .words, present-next row j) (sym (cleared-append (layout r (counters b)) q es us b));
+            count = rw (present-next row j, length-append es us) long;
+            bytes = written ∙ rw (found, long, present-next row j, m .bytes, m .count) (entries-behind out first-entry-at es us);
+            summed = rw (found, m .summed) (sum-turn j (held row));
+          }
+
+      -- so one card more is passed
+      pub making-turn : (b″ out″ : List ℕ) (len″ : ℕ) → let e = entry-of r b′ q j in let us = entry-sent j e in
+          len″ ≡ len + length us → b″ ≡ cleared-words (layout r (counters b′)) q us b′ → out″ ≡ sets out′ (clear-length len) (entries-bytes (length us) us)
+          → Making b out r q (j + 1) b″ out″ (value + (e .p - e .n)) len″
+      making-turn = turn (entry-of r b′ q j) making-next
+
+  -- all of them passed, then the length word and N: the clear is sent
+  pub clear-sent : (out : List ℕ) (own sequence : ℕ) (b′ b″ out′ out″ : List ℕ) (value len : ℕ) → size-of (clear-of b q) ≤ length out → own ≡ own-card b
+      → Making b (sets out 0 (header-bytes-of version-2 clear-kind own (N-of r b own + 1) q)) r q r b′ out′ value len
+      → sequence ≡ N-of r b′ own + 1 → out″ ≡ sets out′ count-at (unsigned-int len) → b″ ≡ set-N r own sequence b′
+      → _≡_ {A = ClearedOutcome} (record { answer = record { number = 0; value = value; sequence = sequence; length = clear-length len }; words = b″; out = out″ })
+      (with-value (reading b q .value) (sent-with format-2 b out (clear-of b q)))
+  unfolding reading read-value shown
+  clear-sent out own sequence b′ b″ out′ out″ value len room mine m next written counted =
+      let es = present-entries r (entry-of r b q) in
+      let stays = making-stays _ r b′ out′ value len m in
+      let on = present-below (entry-of r b q) r r (omega arith) in
+      let inside : own < r = rw mine (own-below b r q 0 first h) in
+      let receives : Receives b r q own = rw mine (sends-receives b r q 0 first h) in
+      let fits : clear-length (length es) ≤ length out = rw (← (clear-made b q r first)) at room in
+      let same : C-of b own + 0 ≡ C-of b′ own = omega (arith, stays .C-stays own inside) in
+      let sent : sequence ≡ N-of r b own + 1 = next ∙ rw (stays .N-stays own inside) in
+      let taken : b″ ≡ words-after own (clearing q es) b = counted ∙ rw next (rw (same, set-C-same own b′) at (clear-taken b r q own receives es b′ on (m .words))) in
+      let bytes : out″ ≡ over (message-bytes (form.clear-message version-2 own (N-of r b own + 1) q es)) out =
+      written ∙ rw (m .bytes, m .count) (clear-written out own (N-of r b own + 1) q es fits) in
+      rw (m .summed, sent, m .count, taken, bytes, mine, first)
+      (ap (λ (x : Message). with-value (reading b q .value) (sent-with format-2 b out x)) (clear-made b q (cards b) refl))
+
+-- ---- the answers
+
+-- zeros beside the number
+abbrev pub zeroed : ClearedOutcome → ClearedOutcome
+zeroed done = record { answer = record { number = done .answer .number; value = 0; sequence = 0; length = 0 }; words = done .words; out = done .out }
+
+-- the outcome without the value
+abbrev pub unvalued : ClearedOutcome → SendOutcome
+unvalued done = record {
+  answer = record { number = done .answer .number; sequence = done .answer .sequence; length = done .answer .length };
+  words = done .words;
+  out = done .out;
+}
+
+-- a call that declines has zeros there already
+pub declined-zeroed : (b : List ℕ) (q : ℕ) (out : List ℕ) (done : ClearedOutcome) → done ≡ read-and-clear-on b q out → done .answer .number ≢ 0 → zeroed done ≡ read-and-clear-on b q out
+declined-zeroed b q out done e some = let refused = read-and-clear-decided b q out .refused (rw e at some) in ap zeroed (e ∙ refused) ∙ sym refused

@@ -1,0 +1,15 @@
+-- By its test.
+use mathlib.Core.Path.{sym, ap}
+use mathlib.Core.Bool.{Bool}
+use Rattle.protocol.specs.Entry.{removeIf}
+use Rattle.taking.proofs.effect.without_settled.Statement.{statement}
+use Rattle.taking.proofs.effect.without_settled.Tie as tie
+
+returns : tie.Need-returns
+returns c = sym (ap (λ (gone : Bool). removeIf gone (c .before .before .before .args .e)) (c .if1 .taken))
+
+returns-2 : tie.Need-returns-2
+returns-2 c = sym (ap (λ (gone : Bool). removeIf gone (c .before .before .before .args .e)) (c .if1 .left))
+
+pub without-settled-spec : {M : Type 1} → statement M
+without-settled-spec = tie.close (tie.spec returns returns-2)

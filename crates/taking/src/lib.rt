@@ -1,0 +1,3 @@
+// The call that takes another card's message.
+mod effect;
+pub mod take;
