@@ -64,7 +64,7 @@ module _ (total part : ℕ → ℕ) (turn : (n : ℕ) → total (suc n) ≡ bitO
 
 module _ (b : List ℕ) (q : ℕ) where
   -- a row whose numbers are too large is not well-formed
-  pub row-too-large : MAX < row-joined (cards b) b q (cards b) → row-well-formed b q ≡ false
+  row-too-large : MAX < row-joined (cards b) b q (cards b) → row-well-formed b q ≡ false
   unfolding joined row-joined
   row-too-large high = not-yes _ (λ formed. let low = all-most (row-facts b q formed) in omega arith)
     where
@@ -82,7 +82,7 @@ module _ (b : List ℕ) (q : ℕ) where
           (λ j l. f .entry j l .c≤most)
 
   -- where every entry is ordered and no number too large, the own entry decides
-  pub row-decided : ((j : ℕ) → j < cards b → Ordered (entry-of (cards b) b q j)) → row-joined (cards b) b q (cards b) ≤ MAX
+  row-decided : ((j : ℕ) → j < cards b → Ordered (entry-of (cards b) b q j)) → row-joined (cards b) b q (cards b) ≤ MAX
       → leb (entry-of (cards b) b q (own-card b) .c) (C-of b (own-card b)) ≡ row-well-formed b q
   unfolding joined row-joined
   row-decided ordered low =
@@ -104,7 +104,7 @@ module _ (b : List ℕ) (q : ℕ) where
           (first-most (row-joined (cards b) b q) (λ j. entry-of (cards b) b q j .c) (λ n. refl) (cards b) low)
 
   -- an entry that is not well-formed is enough
-  pub entry-fails : (j : ℕ) → j < cards b → entry-well-formed (entry-of (cards b) b q j) ≡ false → row-well-formed b q ≡ false
+  entry-fails : (j : ℕ) → j < cards b → entry-well-formed (entry-of (cards b) b q j) ≡ false → row-well-formed b q ≡ false
   entry-fails j l f = not-yes _ (λ formed. false≢true (sym f ∙ entry-from _ (row-facts b q formed .entry j l)))
 
 -- ---- a loop over the row's entries

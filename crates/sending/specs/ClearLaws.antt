@@ -5,11 +5,12 @@ use mathlib.Core.Path.{_≡_, refl, sym, ap, _∙_}
 use mathlib.Core.Logic.{_≢_}
 use mathlib.Core.List.{List, [], _∷_, _++_, append-nil, append-assoc}
 use mathlib.Core.Bool.{cond}
-use native.Mathlib.Nat.{add-zero, add-suc, suc-mul}
+use native.Mathlib.Nat.{add-zero, add-suc, suc-mul, le-refl, max-eq-left, max-eq-right}
 use native.Mathlib.Numerals.{add-one}
 use native.Mathlib.Omega.{arith}
 use lib.ListN.{length, set, replicate, length-append, List·getD-append}
 use lib.Seq.{sets, length-sets, getD-append-add}
+use borrow.Author.Tests.{lt-ltb, le-leb, lt-leb, eq-eqb}
 use Rattle.protocol.specs.Cases.{by-le, by-test}
 use Rattle.protocol.specs.StoredLists.{sets-append, sets-set}
 use Rattle.protocol.specs.Limits.{MAX, most-cards}
@@ -71,6 +72,20 @@ entry-written out at card p c =
     let e : ClearEntry = record { card = card; p = p; c = c } in
     let joined : sets (sets (sets out at (unsigned-int card)) (at + entry-p-at) (unsigned-hyper p)) (at + entry-c-at) (unsigned-hyper c) ≡ sets out at (entry-bytes e) = simp (sets-append, length-append, length-bytes-of) in
     joined
+
+-- ---- what the own clear makes of an entry that it names
+
+-- n is at most p, so the larger is (p, p, c): it stays where c is ahead of the increments received, and goes where it is not. e and `received` are what the code found.
+module _ (M : Entry) (C : ℕ) (n≤p : M .n ≤ M .p) (some : 0 < M .p) (e : Entry) (received : ℕ) (found : e ≡ M) (known : received ≡ C) where
+  pub cleared-ahead : received < e .c → _≡_ {A = Entry} (record { p = e .p; n = e .p; c = e .c }) (cleared (M .p) (M .c) C M)
+  unfolding cleared
+  cleared-ahead l =
+      rw (found, lt-ltb 0 (M .p) some, max-eq-left (le-refl (M .p)), max-eq-right n≤p, max-eq-left (le-refl (M .c)), eq-eqb (M .p) (M .p) refl, lt-leb (M .c) C (rw (found, known) at l))
+
+  pub cleared-gone : e .c ≤ received → _≡_ {A = Entry} (record { p = 0; n = 0; c = 0 }) (cleared (M .p) (M .c) C M)
+  unfolding cleared
+  cleared-gone l =
+      rw (lt-ltb 0 (M .p) some, max-eq-left (le-refl (M .p)), max-eq-right n≤p, max-eq-left (le-refl (M .c)), eq-eqb (M .p) (M .p) refl, le-leb (M .c) C (rw (found, known) at l))
 
 -- the header, the entries behind their length word, and then that
 clear-written : (out : List ℕ) (sender sequence counter : ℕ) (es : List ClearEntry) → clear-length (length es) ≤ length out

@@ -8,31 +8,25 @@ use mathlib.Core.List.{List, [], _∷_}
 use native.Mathlib.Omega.{arith}
 use lib.ListN.{length}
 use lib.Dec.{leb}
-use borrow.Author.Tests.{le-leb, lt-leb, ne-eqb}
+use borrow.Author.Tests.{lt-leb, ne-eqb}
 use Rattle.protocol.specs.Limits.{MAX, most-amount, short-output}
 use Rattle.protocol.specs.Checks.{Check, or-else, checked, first-failing}
 use Rattle.protocol.specs.ChecksLaws.{first-refuses, first-passes, all-accepts, checked-append}
 use Rattle.protocol.specs.declared.Entry.{Entry}
 use Rattle.protocol.specs.declared.ClearEntry.{ClearEntry}
-use Rattle.protocol.specs.Entry.{present, count-starts, count-p}
-use Rattle.protocol.specs.Chassis.{Message, increment, clearing, count-message, clear-message, present-entries}
+use Rattle.protocol.specs.Entry.{present}
+use Rattle.protocol.specs.Chassis.{Message, clearing, clear-message, present-entries}
 use Rattle.protocol.specs.StoreLaws.{shown}
-use Rattle.wire.specs.Message.{message-bytes, over}
-use Rattle.replica_model.specs.declared.Sent.{Sent}
 use Rattle.replica_model.specs.declared.Cleared.{Cleared}
 use Rattle.sending.specs.declared.making.Made.{Made}
 use Rattle.replica_model.specs.Layout.{cards, own-card, C-of, N-of, entry-of}
-use Rattle.replica_model.specs.Format.{format-2, on-wire, size-of}
-use Rattle.replica_model.specs.Calls.{SendOutcome, is-amount, making-checks, not-sent, sent-with, send-with, count-of, clear-of, clear-on, with-value, with-value-read, read-and-clear-on, words-after}
+use Rattle.replica_model.specs.Format.{format-2, size-of}
+use Rattle.replica_model.specs.Calls.{SendOutcome, is-amount, making-checks, not-sent, sent-with, send-with, clear-of, clear-on, with-value, with-value-read, read-and-clear-on}
 use Rattle.replica_model.specs.Senders.{Sending}
 use Rattle.replica_model.specs.AcceptedCalls.{sending-facts}
 use Rattle.replica_model.specs.RowLaws.{tests}
 use Rattle.layout.specs.WordsLaws.{RowInside}
 use Rattle.layout.specs.Effects.{Receives}
-
--- a call that declines: "number, zeros"
-abbrev pub no-sent : ℕ → Sent
-no-sent number = record { number = number; sequence = 0; length = 0 }
 
 -- ---- the checks before a message is made, and the one behind
 
@@ -97,20 +91,6 @@ module _ (b : List ℕ) (r q w : ℕ) (first : r ≡ cards b) (h : Sending b q w
 module _ (b out : List ℕ) (m : Message) where
   pub too-short : length out < size-of m → not-sent short-output b out ≡ with-room b out m
   too-short l = rw (lt-leb (size-of m) (length out) l)
-
-  pub was-sent : (own messages size : ℕ) (words out₁ : List ℕ) → own ≡ own-card b → messages ≡ N-of (cards b) b own → size ≡ size-of m → size ≤ length out
-      → out₁ ≡ over (message-bytes (on-wire own (messages + 1) m)) out → words ≡ words-after own m b
-      → _≡_ {A = SendOutcome} (record { answer = record { number = 0; sequence = messages + 1; length = size }; words = words; out = out₁ }) (with-room b out m)
-  was-sent own messages size words out₁ mine seen long l written applied =
-      rw (le-leb (size-of m) (length out) (rw long at l), written, applied, long, seen, mine)
-
--- ---- what count sends
-
--- "with M[i] absent, send p = C[i] + w with start; else p = M[i].p + w without", from what was found at own card
-pub count-made : (b : List ℕ) (q r own w counted p : ℕ) (start : Bool) (e : Entry) → r ≡ cards b → own ≡ own-card b → e ≡ entry-of r b q own → counted ≡ C-of b own
-    → p ≡ count-p w counted e → start ≡ count-starts e → increment q w p start ≡ count-of b q w
-unfolding count-message shown
-count-made b q r own w counted p start e first mine found known next starts = rw (starts, next, known, found, mine, first)
 
 -- ---- what clear sends
 

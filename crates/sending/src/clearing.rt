@@ -14,7 +14,6 @@ ghost use lib.ListN.{length};
 ghost use lib.Dec.{leb};
 ghost use lib.Seq.{sets};
 ghost use Rattle.protocol.specs.Checks.{first-failing};
-ghost use Rattle.protocol.specs.Entry.{cleared};
 ghost use Rattle.protocol.specs.Chassis.{present-entries};
 ghost use Rattle.protocol.specs.Store.{cleared-words};
 ghost use Rattle.wire.specs.Message.{clear-length, entries-bytes};
@@ -82,24 +81,9 @@ fn has_room(words: &[u64], r: usize, q: usize, room: usize) -> bool
     wire::clear_length(holders_of(words, r, q)) <= room
 }
 
-// What the message makes of an entry that it names: n is at most p, so the larger is (p, p, c), which goes unless c is ahead of C.
-// Ruled out: an entry dropped though increments that it cancels are still to come (must-fail/dropped_ahead).
-fn cleared_entry(e: Entry, received: u64) -> Entry
-    requires { ⌜ (e .n ≤ e .p) × (0 < e .p) ⌝ }
-    ensures { λ a. ⌜ a ≡ cleared (e .p) (e .c) received e ⌝ }
-{
-    if received < e.c {
-        return Entry {
-            p: e.p,
-            n: e.p,
-            c: e.c,
-        };
-    }
-    Entry { p: 0, n: 0, c: 0 }
-}
-
 // Card j's entry, if it is present: written behind the `len` before it, then cleared. Answers how many are written. As in `counting::make` each number is read where it is
-// written.
+// written. n is at most p, so what the message makes of the entry is (p, p, c), which goes unless c is ahead of C; each is put by itself, so that three zeros are two stores.
+// Ruled out: an entry dropped though increments that it cancels are still to come (must-fail/dropped_ahead).
 fn make_entry(words: &mut [u64], r: usize, q: usize, j: usize, out: &mut [u8], len: usize) -> usize
     requires { ⌜ RowInside (now words) r q × (j < r) × (entry-of r (now words) q j .n ≤ entry-of r (now words) q j .p) × (clear-length (len + length (entry-sent j (entry-of r (now words) q j))) ≤ length (now out)) × (len ≤ j) ⌝ }
     ensures { λ a. ⌜ (a ≡ len + length (entry-sent j (entry-of r (now (words .entry)) q j))) × (now (words .exit) ≡ cleared-words (layout r (counters (now (words .entry)))) q (entry-sent j (entry-of r (now (words .entry)) q j)) (now (words .entry))) × (now (out .exit) ≡ sets (now (out .entry)) (clear-length len) (entries-bytes (length (entry-sent j (entry-of r (now (words .entry)) q j))) (entry-sent j (entry-of r (now (words .entry)) q j)))) ⌝ }
@@ -121,7 +105,17 @@ fn make_entry(words: &mut [u64], r: usize, q: usize, j: usize, out: &mut [u8], l
     );
     let e = words::entry_at(words, r, q, j);
     let received = words::increments_at(words, j);
-    words::put_entry(words, r, q, j, cleared_entry(e, received));
+    if received < e.c {
+        let ahead = Entry {
+            p: e.p,
+            n: e.p,
+            c: e.c,
+        };
+        words::put_entry(words, r, q, j, ahead);
+        return len + 1;
+    }
+    let absent = Entry { p: 0, n: 0, c: 0 };
+    words::put_entry(words, r, q, j, absent);
     len + 1
 }
 
@@ -139,20 +133,20 @@ fn make(words: &mut [u64], r: usize, q: usize, out: &mut [u8]) -> Made
         encode::SEQUENCE_AT,
         words::messages_at(words, r, own) + 1,
     );
-    let cards = words::cards_of(words);
+    let messages = words::messages_at(words, r, own);
     number::write_u32(out, encode::COUNTER_AT, q as u32);
     let mut value: u64 = 0;
     let mut len: usize = 0;
     let mut j: usize = 0;
-    while j < cards {
-        let e = words::entry_at(words, cards, q, j);
+    while j < r {
+        let e = words::entry_at(words, r, q, j);
         value = value + (e.p - e.n);
-        len = make_entry(words, cards, q, j, out, len);
+        len = make_entry(words, r, q, j, out, len);
         j += 1;
     }
-    let sequence = words::messages_at(words, cards, own) + 1;
+    let sequence = messages + 1;
     number::write_u32(out, encode::LEN_AT, len as u32);
-    words::set_messages(words, cards, own, sequence);
+    words::set_messages(words, r, own, sequence);
     Made {
         sequence,
         number: 0,

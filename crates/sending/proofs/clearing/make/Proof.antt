@@ -19,16 +19,16 @@ use Rattle.sending.proofs.clearing.make.Statement.{statement}
 use Rattle.sending.proofs.clearing.make.Tie as tie
 
 abbrev Inv-loop : tie.InvT-loop
-Inv-loop words₀ r q out₀ own cards value₀ len₀ j₀ words out value len j = Making words₀ out₀ cards q j words out value len
+Inv-loop words₀ r q out₀ own messages value₀ len₀ j₀ words out value len j = Making words₀ out₀ r q j words out value len
 
 abbrev μ-loop : tie.MeasureT-loop
-μ-loop words₀ r q out₀ own cards value₀ len₀ j₀ words out value len j = cards - j
+μ-loop words₀ r q out₀ own messages value₀ len₀ j₀ words out value len j = r - j
 
--- the way back: from the loop to the sizes, to the own card, to the start
-abbrev sized-of : tie.At-loop Inv-loop μ-loop → tie.After-cards-of Inv-loop μ-loop
+-- the way back: from the loop to where N is kept, to the own card, to the start
+abbrev sized-of : tie.At-loop Inv-loop μ-loop → tie.After-messages-at2 Inv-loop μ-loop
 sized-of c = c .before .before .before .before .before
 
-abbrev mine-of : tie.After-cards-of Inv-loop μ-loop → tie.After-own-card Inv-loop μ-loop
+abbrev mine-of : tie.After-messages-at2 Inv-loop μ-loop → tie.After-own-card Inv-loop μ-loop
 mine-of c = c .before .before .before .before .before .before .before .before .before .before .before .before .before .before .before .before .before .before .before .before .before .before
 
 abbrev start-of : tie.After-own-card Inv-loop μ-loop → tie.Start Inv-loop μ-loop
@@ -47,7 +47,7 @@ few c = few-cards _ _ _ (row-inside _ _ _ _ (c .pre .0) (c .pre .1))
 
 -- the header is written
 header : (c : tie.After-write-u324 Inv-loop μ-loop) → let sized = c .before .before in let mine = sized .before .before .before .before .before .before .before .before .before .before .before .before .before .before .before .before .before .before .before .before .before .before in let start = mine .before .before .before .before in
-    c .write-u324 .last .0 ≡ sets (now (start .args .out)) 0 (header-bytes-of version-2 clear-kind (mine .own-card .result) (N-of (sized .cards-of .result) (now (start .args .words)) (mine .own-card .result) + 1) (start .args .q))
+    c .write-u324 .last .0 ≡ sets (now (start .args .out)) 0 (header-bytes-of version-2 clear-kind (mine .own-card .result) (N-of (start .args .r) (now (start .args .words)) (mine .own-card .result) + 1) (start .args .q))
 header c =
     let sized = c .before .before in
     let fourth = sized .before .before .before .before in
@@ -56,31 +56,25 @@ header c =
     let first = second .before .before .before .before in
     let mine = first .before .before in
     let start = start-of mine in
-    rw (c .write-u324 .ensures, fourth .write-u64 .ensures, fourth .before .messages-at .ensures, third .write-u323 .ensures, third .before .own-card2 .ensures, second .write-u322 .ensures, first .write-u32 .ensures, start .pre .0 ∙ sym (sized .cards-of .ensures), mine .own-card .ensures)
+    rw (c .write-u324 .ensures, fourth .write-u64 .ensures, fourth .before .messages-at .ensures, third .write-u323 .ensures, third .before .own-card2 .ensures, second .write-u322 .ensures, first .write-u32 .ensures, mine .own-card .ensures)
     (simp (sets-append, length-append, length-bytes-of))
 
 header-long : (c : tie.After-write-u324 Inv-loop μ-loop) → length (c .write-u324 .last .0) ≡ length (now (start-of (mine-of (c .before .before)) .args .out))
 header-long c = ap length (header c) ∙ simp length-sets
 
--- of the words with their sizes: how many cards they have, that the own card is one of them, and that it has a message left
-module _ (c : tie.After-cards-of Inv-loop μ-loop) where
-  cards-few : c .cards-of .result ≤ most-cards
-  cards-few = few-cards _ _ _ (row-inside _ _ _ _ (c .cards-of .ensures) (start-of (mine-of c) .pre .1))
-
-  card-in : mine-of c .own-card .result < c .cards-of .result
-  card-in = omega (arith, mine-of c .own-card .ensures, own-below _ _ _ _ (c .cards-of .ensures) (start-of (mine-of c) .pre .1))
-
-  card-more : N-of (c .cards-of .result) (now (start-of (mine-of c) .args .words)) (mine-of c .own-card .result) < MAX
-  card-more =
-      omega (arith, ap (N-of (c .cards-of .result) (now (start-of (mine-of c) .args .words))) (mine-of c .own-card .ensures), own-numbers _ _ _ _ (c .cards-of .ensures) (start-of (mine-of c) .pre .1))
+-- the own card has a message left
+card-more : (c : tie.After-own-card Inv-loop μ-loop) → N-of (start-of c .args .r) (now (start-of c .args .words)) (c .own-card .result) < MAX
+card-more c =
+    let start = start-of c in
+    omega (arith, ap (N-of (start .args .r) (now (start .args .words))) (c .own-card .ensures), own-numbers _ _ _ _ (start .pre .0) (start .pre .1))
 
 -- of the loop: what stays, how many entries there are, and that the output is as long as it was
 module _ (c : tie.At-loop Inv-loop μ-loop) where
-  stays : let start = start-of (mine-of (sized-of c)) in Stays (sized-of c .cards-of .result) (start .args .q) (c .loop .j) (now (start .args .words)) (c .loop .words)
-  stays = making-stays _ _ _ (sized-of c .cards-of .ensures) (start-of (mine-of (sized-of c)) .pre .1) _ _ _ _ _ _ (c .loop .inv)
+  stays : let start = start-of (mine-of (sized-of c)) in Stays (start .args .r) (start .args .q) (c .loop .j) (now (start .args .words)) (c .loop .words)
+  stays = making-stays _ _ _ (start-of (mine-of (sized-of c)) .pre .0) (start-of (mine-of (sized-of c)) .pre .1) _ _ _ _ _ _ (c .loop .inv)
 
   len-few : c .loop .len ≤ most-cards
-  len-few = omega (arith, making-few _ _ _ _ _ _ _ _ _ (c .loop .inv), c .loop .inv .within, cards-few (sized-of c))
+  len-few = omega (arith, making-few _ _ _ _ _ _ _ _ _ (c .loop .inv), c .loop .inv .within, few (start-of (mine-of (sized-of c))))
 
   out-long : length (c .loop .out) ≡ length (now (start-of (mine-of (sized-of c)) .args .out))
   out-long = making-length _ _ _ _ _ _ _ _ _ (c .loop .inv) ∙ header-long (c .before .before .before)
@@ -92,8 +86,8 @@ entry-small c =
     let sized = sized-of at in
     let pre = start-of (mine-of sized) .pre in
     let more = c .before .before .loop-test .taken in
-    rw (c .entry-at .ensures ∙ making-next _ _ _ (sized .cards-of .ensures) (pre .1) _ _ _ _ _ _ (at .loop .inv) more)
-    (sent-well-formed _ _ _ (sized .cards-of .ensures) (pre .1) _ more)
+    rw (c .entry-at .ensures ∙ making-next _ _ _ (pre .0) (pre .1) _ _ _ _ _ _ (at .loop .inv) more)
+    (sent-well-formed _ _ _ (pre .0) (pre .1) _ more)
 
 own-card-requires : tie.Need-own-card-requires Inv-loop μ-loop
 own-card-requires c κs = head-inside _ (c .before .before .before .pre .1 .right)
@@ -130,8 +124,11 @@ add-write-u64 c =
 write-u64-requires : tie.Need-write-u64-requires Inv-loop μ-loop
 write-u64-requires c κs = omega (arith, room (c .before .before .before .before .before .before .before .before .before .before .before .before .before .before .before .before .before .before .before .before .before))
 
-cards-of-requires : tie.Need-cards-of-requires Inv-loop μ-loop
-cards-of-requires c κs = head-inside _ (c .before .before .before .before .before .before .before .before .before .before .before .before .before .before .before .before .before .before .before .before .before .before .before .before .before .pre .1 .right)
+messages-at-requires-2 : tie.Need-messages-at-requires-2 Inv-loop μ-loop
+messages-at-requires-2 c κs =
+    let mine = c .before .before .before .before .before .before .before .before .before .before .before .before .before .before .before .before .before .before .before .before .before in
+    let start = start-of mine in
+    row-N _ _ _ (row-inside _ _ _ _ (start .pre .0) (start .pre .1)) _ (own-in mine)
 
 cast-write-u32-2 : tie.Need-cast-write-u32-2 Inv-loop μ-loop
 cast-write-u32-2 c = let h = start-of (mine-of (c .before)) .pre .1 in omega (arith, h .counter, h .right .sizes .few-counters)
@@ -153,7 +150,7 @@ add-value c =
     let at = c .before .before .before .before in
     let sized = sized-of at in
     let small = entry-small (c .before) in
-    omega (arith, making-small _ _ _ (sized .cards-of .ensures) (start-of (mine-of sized) .pre .1) _ _ _ _ _ _ (at .loop .inv), cards-few sized, c .before .before .before .loop-test .taken)
+    omega (arith, making-small _ _ _ (start-of (mine-of sized) .pre .0) (start-of (mine-of sized) .pre .1) _ _ _ _ _ _ (at .loop .inv), few (start-of (mine-of sized)), c .before .before .before .loop-test .taken)
 
 make-entry-requires : tie.Need-make-entry-requires Inv-loop μ-loop
 make-entry-requires c κs =
@@ -166,12 +163,14 @@ make-entry-requires c κs =
       stays at .inside,
       more,
       rw (read .entry-at .ensures) at (entry-small read .n≤p),
-      making-room _ _ _ (sized .cards-of .ensures) (start .pre .1) _ _ _ _ _ _ (at .loop .inv) more (rw (header-long (at .before .before .before)) (start .pre .2)),
+      making-room _ _ _ (start .pre .0) (start .pre .1) _ _ _ _ _ _ (at .loop .inv) more (rw (header-long (at .before .before .before)) (start .pre .2)),
       making-few _ _ _ _ _ _ _ _ _ (at .loop .inv),
     )
 
 add-j : tie.Need-add-j Inv-loop μ-loop
-add-j c = search needs
+add-j c =
+    let turn = c .before .before .before .before .before .before .before .before .before .before in
+    omega (arith, turn .loop-test .taken, few (start-of (mine-of (sized-of (turn .before)))))
 
 loop-less : tie.Need-loop-less Inv-loop μ-loop
 loop-less c = search needs
@@ -185,53 +184,49 @@ loop-again c =
     let sized = sized-of at in
     let done = made .make-entry .ensures in
     rw (read .entry-at .ensures)
-    (making-turn _ _ _ (sized .cards-of .ensures) (start-of (mine-of sized) .pre .1) _ _ _ _ _ _ (at .loop .inv) (turn .loop-test .taken) _ _ _ (done .0) (done .1) (done .2))
-
-messages-at-requires-2 : tie.Need-messages-at-requires-2 Inv-loop μ-loop
-messages-at-requires-2 c κs = let at = c .before .before in row-N _ _ _ (stays at .inside) _ (card-in (sized-of at))
+    (making-turn _ _ _ (start-of (mine-of sized) .pre .0) (start-of (mine-of sized) .pre .1) _ _ _ _ _ _ (at .loop .inv) (turn .loop-test .taken) _ _ _ (done .0) (done .1) (done .2))
 
 add-sequence : tie.Need-add-sequence Inv-loop μ-loop
-add-sequence c =
-    let at = c .before .before .before in
-    let sized = sized-of at in
-    omega (arith, c .messages-at2 .ensures, stays at .N-stays _ (card-in sized), card-more sized)
+add-sequence c = let kept = sized-of (c .before) in omega (arith, kept .messages-at2 .ensures, card-more (mine-of kept))
 
 cast-write-u32-3 : tie.Need-cast-write-u32-3 Inv-loop μ-loop
-cast-write-u32-3 c = omega (arith, len-few (c .before .before .before .before))
+cast-write-u32-3 c = omega (arith, len-few (c .before .before))
 
 write-u32-requires-5 : tie.Need-write-u32-requires-5 Inv-loop μ-loop
-write-u32-requires-5 c κs = let at = c .before .before .before .before in rw (out-long at) (room (start-of (mine-of (sized-of at))))
+write-u32-requires-5 c κs = let at = c .before .before in rw (out-long at) (room (start-of (mine-of (sized-of at))))
 
 set-messages-requires : tie.Need-set-messages-requires Inv-loop μ-loop
 set-messages-requires c κs =
-    let at = c .before .before .before .before .before .before .before .before in
-    row-N _ _ _ (stays at .inside) _ (card-in (sized-of at))
+    let at = c .before .before .before .before .before .before in
+    row-N _ _ _ (stays at .inside) _ (own-in (mine-of (sized-of at)))
 
 clear-length-requires : tie.Need-clear-length-requires Inv-loop μ-loop
-clear-length-requires c κs = omega (arith, len-few (c .before .before .before .before .before .before .before .before .before .before .before))
+clear-length-requires c κs = omega (arith, len-few (c .before .before .before .before .before .before .before .before .before))
 
 same-length : tie.Need-same-length Inv-loop μ-loop
 same-length c =
     let counted = c .before .before .before in
-    ap length (counted .set-messages .ensures) ∙ simp length-set (stays (counted .before .before .before .before .before .before .before .before .before) .long)
+    ap length (counted .set-messages .ensures) ∙ simp length-set (stays (counted .before .before .before .before .before .before .before) .long)
 
 same-length-2 : tie.Need-same-length-2 Inv-loop μ-loop
 same-length-2 c =
     let written = c .before .before .before .before .before .before .before in
-    ap length (written .write-u325 .ensures) ∙ simp length-sets (out-long (written .before .before .before .before .before))
+    ap length (written .write-u325 .ensures) ∙ simp length-sets (out-long (written .before .before .before))
 
 returns : tie.Need-returns Inv-loop μ-loop
 returns c =
     let counted = c .before .before .before in
     let written = counted .before .before .before .before in
-    let seen = written .before .before in
-    let at = seen .before .before .before in
-    let sized = sized-of at in
-    let start = start-of (mine-of sized) in
-    let all : at .loop .j ≡ sized .cards-of .result = omega (arith, at .loop .inv .within, seen .before .before .loop-test .left) in
+    let ended = written .before .before in
+    let at = ended .before in
+    let kept = sized-of at in
+    let mine = mine-of kept in
+    let start = start-of mine in
+    let all : at .loop .j ≡ start .args .r = omega (arith, at .loop .inv .within, ended .loop-test .left) in
     rw (c .clear-length .ensures)
-    (clear-sent _ _ _ (sized .cards-of .ensures) (start .pre .1) _ _ _ _ _ _ _ _ _ (start .pre .2) (mine-of sized .own-card .ensures)
-    (rw (header (at .before .before .before), all) at (at .loop .inv)) (ap (λ (x : ℕ). x + 1) (seen .messages-at2 .ensures)) (written .write-u325 .ensures) (counted .set-messages .ensures))
+    (clear-sent _ _ _ (start .pre .0) (start .pre .1) _ _ _ _ _ _ _ _ _ (start .pre .2) (mine .own-card .ensures)
+    (rw (header (at .before .before .before), all) at (at .loop .inv))
+    (ap (λ (x : ℕ). x + 1) (kept .messages-at2 .ensures ∙ sym (stays at .N-stays _ (own-in mine)))) (written .write-u325 .ensures) (counted .set-messages .ensures))
 
 pub make-spec : {M : Type 1} → statement M
 make-spec =
@@ -248,7 +243,7 @@ make-spec =
     messages-at-requires
     add-write-u64
     write-u64-requires
-    cards-of-requires
+    messages-at-requires-2
     cast-write-u32-2
     write-u32-requires-4
     loop-holds
@@ -259,7 +254,6 @@ make-spec =
     add-j
     loop-less
     loop-again
-    messages-at-requires-2
     add-sequence
     cast-write-u32-3
     write-u32-requires-5

@@ -1,7 +1,7 @@
 -- An absent entry adds nothing. A present one is three numbers stored side by side (`entry-written`), and what stands there, cleared, is put back.
 use borrow.Author.Needs.{needs}
 use Prim.Native.Nat.{_+_, _≤_, _<_}
-use mathlib.Core.Path.{_≡_, refl}
+use mathlib.Core.Path.{_≡_, refl, ap, _∙_}
 use mathlib.Core.List.{[], _∷_}
 use native.Mathlib.Omega.{arith}
 use lib.ListN.{length}
@@ -11,9 +11,9 @@ use borrow.Author.Tests.{lt-ltb, le-ltb}
 use Rattle.protocol.specs.declared.Entry.{Entry}
 use Rattle.protocol.specs.StoreLaws.{cleared-words}
 use Rattle.wire.specs.Message.{clear-length, entries-bytes}
-use Rattle.replica_model.specs.Layout.{entry-of}
+use Rattle.replica_model.specs.Layout.{entry-of, set-entry}
 use Rattle.layout.specs.WordsLaws.{few-cards, row-C}
-use Rattle.sending.specs.ClearLaws.{entry-written}
+use Rattle.sending.specs.ClearLaws.{entry-written, cleared-ahead, cleared-gone}
 use Rattle.sending.proofs.clearing.make_entry.Statement.{statement}
 use Rattle.sending.proofs.clearing.make_entry.Tie as tie
 
@@ -101,36 +101,71 @@ entry-at-requires-4 c κs = let start = start-of (place-of (c .before .before .b
 increments-at-requires : tie.Need-increments-at-requires
 increments-at-requires c κs = let start = start-of (place-of (written-of (c .before)) .before) in row-C _ _ _ (start .pre .0) _ (start .pre .1)
 
-cleared-entry-requires : tie.Need-cleared-entry-requires
-cleared-entry-requires c κs =
-    let found = c .before .before .before in
-    let else1 = place-of (written-of found) .before in
-    rw (found .entry-at4 .ensures) (start-of else1 .pre .2, some else1)
+-- where the entry and the increments received have been found
+abbrev found-of : tie.After-struct-known2 → tie.After-entry-at4
+found-of c = c .before .before .before
 
 put-entry-requires : tie.Need-put-entry-requires
-put-entry-requires c κs = let start = start-of (place-of (written-of (c .before .before .before .before)) .before) in (start .pre .0, start .pre .1)
+put-entry-requires c κs = let start = start-of (place-of (written-of (found-of (c .before .before))) .before) in (start .pre .0, start .pre .1)
 
 add-result : tie.Need-add-result
 add-result c =
-    let start = start-of (place-of (written-of (c .before .before .before .before .before .before .before)) .before) in
+    let start = start-of (place-of (written-of (found-of (c .before .before .before .before .before))) .before) in
     omega (arith, start .pre .1, start .pre .4, few-cards _ _ _ (start .pre .0))
 
 same-length-2 : tie.Need-same-length-2
 same-length-2 c = search needs
 
 same-length-3 : tie.Need-same-length-3
-same-length-3 c = rw (written (written-of (c .before .before .before .before .before .before .before))) (simp length-sets)
+same-length-3 c = rw (written (written-of (found-of (c .before .before .before .before .before)))) (simp length-sets)
 
 returns-2 : tie.Need-returns-2
 unfolding cleared-words
 returns-2 c =
     let stored = c .before .before in
-    let made = stored .before in
-    let received = made .before .before in
-    let found = received .before .before in
+    let then2 = stored .before .before in
+    let known = then2 .before in
+    let received = known .before in
+    let found = found-of known in
     let else1 = place-of (written-of found) .before in
-    rw (lt-ltb 0 _ (some else1))
-    (refl, rw (stored .put-entry .ensures, made .cleared-entry .ensures, found .entry-at4 .ensures, received .increments-at .ensures), written (written-of found))
+    let start = start-of else1 in
+    rw (lt-ltb 0 _ (some else1)) (
+      refl,
+      stored .put-entry .ensures
+          ∙ ap (λ (x : Entry). set-entry (start .args .r) (start .args .q) (start .args .j) x (now (start .args .words))) (cleared-ahead _ _ (start .pre .2) (some else1) _ _ (found .entry-at4 .ensures) (received .increments-at .ensures) (then2 .if2 .taken)),
+      written (written-of found),
+    )
+
+put-entry-requires-2 : tie.Need-put-entry-requires-2
+put-entry-requires-2 c κs = let start = start-of (place-of (written-of (found-of (c .before .before))) .before) in (start .pre .0, start .pre .1)
+
+add-result-2 : tie.Need-add-result-2
+add-result-2 c =
+    let start = start-of (place-of (written-of (found-of (c .before .before .before .before .before))) .before) in
+    omega (arith, start .pre .1, start .pre .4, few-cards _ _ _ (start .pre .0))
+
+same-length-4 : tie.Need-same-length-4
+same-length-4 c = search needs
+
+same-length-5 : tie.Need-same-length-5
+same-length-5 c = rw (written (written-of (found-of (c .before .before .before .before .before)))) (simp length-sets)
+
+returns-3 : tie.Need-returns-3
+unfolding cleared-words
+returns-3 c =
+    let stored = c .before .before in
+    let else2 = stored .before .before in
+    let known = else2 .before in
+    let received = known .before in
+    let found = found-of known in
+    let else1 = place-of (written-of found) .before in
+    let start = start-of else1 in
+    rw (lt-ltb 0 _ (some else1)) (
+      refl,
+      stored .put-entry2 .ensures
+          ∙ ap (λ (x : Entry). set-entry (start .args .r) (start .args .q) (start .args .j) x (now (start .args .words))) (cleared-gone _ _ (start .pre .2) (some else1) _ _ (found .entry-at4 .ensures) (received .increments-at .ensures) (else2 .if2 .left)),
+      written (written-of found),
+    )
 
 pub make-entry-spec : {M : Type 1} → statement M
 make-entry-spec =
@@ -150,9 +185,13 @@ make-entry-spec =
     write-u64-requires-2
     entry-at-requires-4
     increments-at-requires
-    cleared-entry-requires
     put-entry-requires
     add-result
     same-length-2
     same-length-3
-    returns-2)
+    returns-2
+    put-entry-requires-2
+    add-result-2
+    same-length-4
+    same-length-5
+    returns-3)
