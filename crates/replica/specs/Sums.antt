@@ -4,13 +4,12 @@ use Prim.Native.Nat.{ℕ, zero, suc, _+_, _-_, _*_, _/_, _%_, _^_, _≤_, _<_}
 use mathlib.Core.Path.{_≡_, refl, sym, ap, _∙_}
 use mathlib.Core.List.{List}
 use mathlib.Core.Bool.{Bool, true, false, cond}
-use native.Mathlib.Nat.{pow-suc, suc-mul, add-comm, mul-assoc, mul-le-mul-right, mul-add-mod-self-right, mod-add-mod, mod-eq-of-lt}
+use native.Mathlib.Nat.{pow-suc, add-comm, mul-assoc, mul-le-mul-right, mul-add-mod-self-right, mod-add-mod, mod-eq-of-lt}
 use native.Mathlib.Numerals.{add-one}
 use native.Mathlib.Omega.{arith}
 use lib.Bits.{bitOr, or-shifted-r}
 use lib.Count.{ones, ones-cat}
 use lib.Dec.{lit<}
-use mir.Val.{boolByte}
 use lib.Pow.{pow-add, field, high, shl-exact}
 use Rattle.protocol.specs.Limits.{MAX, most-cards}
 use Rattle.protocol.specs.Cases.{by-place}
@@ -18,17 +17,9 @@ use Rattle.protocol.specs.Tables.{sum, bits}
 use Rattle.protocol.specs.Functions.{count-below}
 use Rattle.replica_model.specs.Layout.{cards, entry-of}
 use Rattle.replica_model.specs.ClaimTerms.{RowOf}
+use Rattle.layout.specs.Totals.{sum-turn, sum-below}
 
 -- ---- sums
-
-pub sum-turn : (n : ℕ) (f : ℕ → ℕ) → sum n f + f n ≡ sum (n + 1) f
-unfolding sum
-sum-turn n f = rw (add-one n)
-
-pub sum-below : (n m : ℕ) (f : ℕ → ℕ) → ((j : ℕ) → j < n → f j ≤ m) → sum n f ≤ n * m
-unfolding sum
-sum-below zero m f small = omega arith
-sum-below (suc n) m f small = omega (arith, suc-mul n m, small n (omega arith), sum-below n m f (λ j l. small j (omega arith)))
 
 -- one turn of a sum that wraps at m
 pub sum-turn-wrapped : (n m : ℕ) (f : ℕ → ℕ) → (sum n f % m + f n) % m ≡ sum (n + 1) f % m
@@ -48,15 +39,6 @@ module _ (b : List ℕ) (q : ℕ) (row : RowOf b q) where
   held-fits few = mod-eq-of-lt (omega (arith, held-below, mul-le-mul-right MAX few))
 
 -- ---- masks
-
--- a test as a number
-pub flag-is : (t : Bool) → boolByte t ≡ cond t 1 0
-flag-is true = refl
-flag-is false = refl
-
-pub flag-small : (t : Bool) → boolByte t ≤ 1
-flag-small true = omega arith
-flag-small false = omega arith
 
 abbrev bit : Bool → ℕ
 bit t = cond t 1 0

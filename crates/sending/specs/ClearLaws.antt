@@ -5,7 +5,7 @@ use mathlib.Core.Path.{_≡_, refl, sym, ap, _∙_}
 use mathlib.Core.Logic.{_≢_}
 use mathlib.Core.List.{List, [], _∷_, _++_, append-nil, append-assoc}
 use mathlib.Core.Bool.{cond}
-use native.Mathlib.Nat.{add-zero, add-suc, suc-mul, le-refl, max-eq-left, max-eq-right}
+use native.Mathlib.Nat.{add-zero, add-suc, le-refl, max-eq-left, max-eq-right}
 use native.Mathlib.Numerals.{add-one}
 use native.Mathlib.Omega.{arith}
 use lib.ListN.{length, set, replicate, length-append, List·getD-append}
@@ -36,6 +36,7 @@ use Rattle.replica_model.specs.Senders.{Sending}
 use Rattle.replica_model.specs.PresentLaws.{present-few, present-below}
 use Rattle.layout.specs.WordsLaws.{RowInside, row-entry}
 use Rattle.layout.specs.Effects.{Receives, clear-taken}
+use Rattle.layout.specs.Totals.{sum-turn, sum-below}
 use Rattle.sending.specs.SendLaws.{entry-sent, row-inside, own-below, sends-receives, clear-made}
 
 -- ---- bytes stored in parts
@@ -141,16 +142,6 @@ cleared-stays r k q j few (e ∷ es) b on h =
     }
 
 -- ---- the value
-
--- one number more, and a bound (as crate replica has them)
-sum-turn : (n : ℕ) (f : ℕ → ℕ) → sum n f + f n ≡ sum (n + 1) f
-unfolding sum
-sum-turn n f = rw (add-one n)
-
-sum-below : (n m : ℕ) (f : ℕ → ℕ) → ((j : ℕ) → j < n → f j ≤ m) → sum n f ≤ n * m
-unfolding sum
-sum-below zero m f small = omega arith
-sum-below (suc n) m f small = omega (arith, suc-mul n m, small n (omega arith), sum-below n m f (λ j l. small j (omega arith)))
 
 -- what card j's entry adds to the value
 abbrev pub held : (ℕ → Entry) → ℕ → ℕ

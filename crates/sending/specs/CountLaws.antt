@@ -1,13 +1,12 @@
 -- LAWS. What a count makes of the own entry, its message number by number, and its outcome; and what a call that sends answers without its value.
 use Prim.Native.Nat.{ℕ, _+_, _-_, _≤_, _<_, max}
-use mathlib.Core.Path.{_≡_, refl, sym, ap, _∙_}
+use mathlib.Core.Path.{_≡_, sym, ap, _∙_}
 use mathlib.Core.Logic.{_≢_}
-use mathlib.Core.Bool.{Bool, true, false, cond}
+use mathlib.Core.Bool.{cond}
 use mathlib.Core.List.{List}
 use native.Mathlib.Omega.{arith}
 use lib.ListN.{length, length-append}
 use lib.Seq.{sets}
-use mir.Val.{boolByte}
 use borrow.Author.Tests.{lt-ltb, le-ltb, le-leb, ne-eqb}
 use Rattle.protocol.specs.Limits.{MAX}
 use Rattle.protocol.specs.declared.Entry.{Entry}
@@ -25,11 +24,6 @@ use Rattle.replica_model.specs.Calls.{SendOutcome, ClearedOutcome, not-sent, se
 use Rattle.replica_model.specs.Senders.{Sending}
 use Rattle.layout.specs.Effects.{Receives, increment-taken}
 use Rattle.sending.specs.SendLaws.{with-room, sends-receives}
-
--- a test as a number
-pub flag-is : (t : Bool) → boolByte t ≡ cond t 1 0
-flag-is true = refl
-flag-is false = refl
 
 -- ---- the own entry e of a card that has counted `counted`, when it counts w more
 

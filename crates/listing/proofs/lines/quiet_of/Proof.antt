@@ -1,5 +1,5 @@
 -- A truth value as a number is 1 or 0.
-use Rattle.replica.specs.Sums.{flag-is, flag-small}
+use Rattle.layout.specs.Totals.{flag-is, flag-small}
 use borrow.Author.Needs.{needs}
 use Rattle.listing.proofs.lines.quiet_of.Statement.{statement}
 use Rattle.listing.proofs.lines.quiet_of.Tie as tie

@@ -1,6 +1,6 @@
 -- A truth value as a number.
 use borrow.Author.Needs.{needs}
-use Rattle.replica.specs.Sums.{flag-is}
+use Rattle.layout.specs.Totals.{flag-is}
 use Rattle.replica.proofs.read.bit_of.Statement.{statement}
 use Rattle.replica.proofs.read.bit_of.Tie as tie
 

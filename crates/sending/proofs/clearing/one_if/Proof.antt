@@ -1,14 +1,8 @@
--- A test as a number, in each case.
+-- A test as a number.
 use borrow.Author.Needs.{needs}
-use mathlib.Core.Path.{_≡_, refl}
-use mathlib.Core.Bool.{Bool, true, false, cond}
-use mir.Val.{boolByte}
+use Rattle.layout.specs.Totals.{flag-is}
 use Rattle.sending.proofs.clearing.one_if.Statement.{statement}
 use Rattle.sending.proofs.clearing.one_if.Tie as tie
-
-flag-is : (t : Bool) → boolByte t ≡ cond t 1 0
-flag-is true = refl
-flag-is false = refl
 
 cast-result : tie.Need-cast-result
 cast-result c = search needs

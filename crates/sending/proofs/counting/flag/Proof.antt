@@ -1,6 +1,6 @@
 -- A truth value as a number.
 use borrow.Author.Needs.{needs}
-use Rattle.sending.specs.CountLaws.{flag-is}
+use Rattle.layout.specs.Totals.{flag-is}
 use Rattle.sending.proofs.counting.flag.Statement.{statement}
 use Rattle.sending.proofs.counting.flag.Tie as tie
 
