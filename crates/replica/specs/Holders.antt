@@ -16,7 +16,8 @@ use Rattle.replica_model.specs.Layout.{cards, entry-of}
 use Rattle.replica_model.specs.Calls.{reading, read-on}
 use Rattle.replica_model.specs.RowLaws.{right-facts, row-facts}
 use Rattle.replica_model.specs.CallsLaws.{read-decided}
-use Rattle.replica.specs.Sums.{held-below, bits-at, bits-below, ones-bits}
+use Rattle.layout.specs.Totals.{held-below}
+use Rattle.replica.specs.Sums.{bits-at, bits-below, ones-bits}
 
 module _ (b : List ℕ) (q : ℕ) where
   -- Bit j of the holders is one exactly where card j's entry is present.
@@ -43,7 +44,7 @@ module _ (b : List ℕ) (q : ℕ) where
       let passed = read-decided b q .exact 0 .0 accepted in
       let few : cards b ≤ most-cards = right-facts b (passed .0) .sizes .few-cards in
       rw (read-decided b q .accepted accepted) (
-        omega (arith, held-below b q (row-facts b q (passed .1 .1 .0)), mul-le-mul-right MAX few),
+        omega (arith, held-below (entry-of (cards b) b q) (cards b) (row-facts b q (passed .1 .1 .0) .entry), mul-le-mul-right MAX few),
         lt-of-lt-of-le holders-below (pow-le-pow-right (lit< tt) few),
       ))
       (λ refused. rw (read-decided b q .refused refused) (omega arith, lit< tt))

@@ -17,7 +17,7 @@ use Rattle.protocol.specs.Tables.{sum, bits}
 use Rattle.protocol.specs.Functions.{count-below}
 use Rattle.replica_model.specs.Layout.{cards, entry-of}
 use Rattle.replica_model.specs.ClaimTerms.{RowOf}
-use Rattle.layout.specs.Totals.{sum-turn, sum-below}
+use Rattle.layout.specs.Totals.{sum-turn, held, held-below}
 
 -- ---- sums
 
@@ -25,18 +25,10 @@ use Rattle.layout.specs.Totals.{sum-turn, sum-below}
 pub sum-turn-wrapped : (n m : ℕ) (f : ℕ → ℕ) → (sum n f % m + f n) % m ≡ sum (n + 1) f % m
 sum-turn-wrapped n m f = mod-add-mod (sum n f) m (f n) ∙ rw (sum-turn n f)
 
--- what card j's entry adds to the value of row q, in a replica of r cards
-abbrev pub held : ℕ → List ℕ → ℕ → ℕ → ℕ
-held r b q j = entry-of r b q j .p - entry-of r b q j .n
-
-module _ (b : List ℕ) (q : ℕ) (row : RowOf b q) where
-  -- each entry of a well-formed row adds at most MAX
-  pub held-below : sum (cards b) (held (cards b) b q) ≤ cards b * MAX
-  held-below = sum-below (cards b) MAX (held (cards b) b q) (λ j l. let e = row .entry j l in omega arith)
-
-  -- most-cards times MAX fits a word
-  pub held-fits : cards b ≤ most-cards → sum (cards b) (held (cards b) b q) % 2 ^ 64 ≡ sum (cards b) (held (cards b) b q)
-  held-fits few = mod-eq-of-lt (omega (arith, held-below, mul-le-mul-right MAX few))
+-- most-cards times MAX fits a word
+pub held-fits : (b : List ℕ) (q : ℕ) → RowOf b q → cards b ≤ most-cards
+    → sum (cards b) (held (entry-of (cards b) b q)) % 2 ^ 64 ≡ sum (cards b) (held (entry-of (cards b) b q))
+held-fits b q row few = mod-eq-of-lt (omega (arith, held-below (entry-of (cards b) b q) (cards b) (row .entry), mul-le-mul-right MAX few))
 
 -- ---- masks
 

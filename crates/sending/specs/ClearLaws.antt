@@ -2,23 +2,19 @@
 -- length word comes last.
 use Prim.Native.Nat.{ℕ, zero, suc, _+_, _-_, _*_, _≤_, _<_}
 use mathlib.Core.Path.{_≡_, refl, sym, ap, _∙_}
-use mathlib.Core.Logic.{_≢_}
 use mathlib.Core.List.{List, [], _∷_, _++_, append-nil, append-assoc}
-use mathlib.Core.Bool.{cond}
 use native.Mathlib.Nat.{add-zero, add-suc, le-refl, max-eq-left, max-eq-right}
-use native.Mathlib.Numerals.{add-one}
 use native.Mathlib.Omega.{arith}
 use lib.ListN.{length, set, replicate, length-append, List·getD-append}
 use lib.Seq.{sets, length-sets, getD-append-add}
 use borrow.Author.Tests.{lt-ltb, le-leb, lt-leb, eq-eqb}
-use Rattle.protocol.specs.Cases.{by-le, by-test}
 use Rattle.protocol.specs.StoredLists.{sets-append, sets-set}
 use Rattle.protocol.specs.Limits.{MAX, most-cards}
 use Rattle.protocol.specs.Rows.{WellFormed}
 use Rattle.protocol.specs.Tables.{sum, put-same-row, put-other}
 use Rattle.protocol.specs.declared.Entry.{Entry}
 use Rattle.protocol.specs.declared.ClearEntry.{ClearEntry}
-use Rattle.protocol.specs.Entry.{present, cleared}
+use Rattle.protocol.specs.Entry.{cleared}
 use Rattle.protocol.specs.Chassis.{Message, clearing, present-entries, read-value}
 use Rattle.protocol.specs.StoreLaws.{Store, CardsBelow, cleared-words, shown}
 use Rattle.wire.specs.Number.{unsigned-int, unsigned-hyper}
@@ -30,14 +26,13 @@ use Rattle.wire.specs.WriteLaws.{clear-stored}
 use Rattle.replica_model.specs.Layout.{head-of, cards, counters, own-card, replica-length, C-of, N-of, entry-of, set-N, set-entry, layout}
 use Rattle.replica_model.specs.LayoutLaws.{lawful, set-C-same, set-entry-length, same-counters}
 use Rattle.replica_model.specs.Format.{format-2, size-of}
-use Rattle.replica_model.specs.Calls.{SendOutcome, ClearedOutcome, sent-with, clear-of, reading, with-value, words-after, read-and-clear-on}
-use Rattle.replica_model.specs.CallsLaws.{read-and-clear-decided}
+use Rattle.replica_model.specs.Calls.{ClearedOutcome, sent-with, clear-of, reading, with-value, words-after}
 use Rattle.replica_model.specs.Senders.{Sending}
-use Rattle.replica_model.specs.PresentLaws.{present-few, present-below}
+use Rattle.replica_model.specs.PresentLaws.{entry-sent, present-next, present-fewer, present-few, present-below}
 use Rattle.layout.specs.WordsLaws.{RowInside, row-entry}
 use Rattle.layout.specs.Effects.{Receives, clear-taken}
-use Rattle.layout.specs.Totals.{sum-turn, sum-below}
-use Rattle.sending.specs.SendLaws.{entry-sent, row-inside, own-below, sends-receives, clear-made}
+use Rattle.layout.specs.Totals.{sum-turn, held, held-below}
+use Rattle.sending.specs.SendLaws.{row-inside, own-below, sends-receives, clear-made}
 
 -- ---- bytes stored in parts
 
@@ -74,20 +69,6 @@ entry-written out at card p c =
     let joined : sets (sets (sets out at (unsigned-int card)) (at + entry-p-at) (unsigned-hyper p)) (at + entry-c-at) (unsigned-hyper c) ≡ sets out at (entry-bytes e) = simp (sets-append, length-append, length-bytes-of) in
     joined
 
--- ---- what the own clear makes of an entry that it names
-
--- n is at most p, so the larger is (p, p, c): it stays where c is ahead of the increments received, and goes where it is not. e and `received` are what the code found.
-module _ (M : Entry) (C : ℕ) (n≤p : M .n ≤ M .p) (some : 0 < M .p) (e : Entry) (received : ℕ) (found : e ≡ M) (known : received ≡ C) where
-  pub cleared-ahead : received < e .c → _≡_ {A = Entry} (record { p = e .p; n = e .p; c = e .c }) (cleared (M .p) (M .c) C M)
-  unfolding cleared
-  cleared-ahead l =
-      rw (found, lt-ltb 0 (M .p) some, max-eq-left (le-refl (M .p)), max-eq-right n≤p, max-eq-left (le-refl (M .c)), eq-eqb (M .p) (M .p) refl, lt-leb (M .c) C (rw (found, known) at l))
-
-  pub cleared-gone : e .c ≤ received → _≡_ {A = Entry} (record { p = 0; n = 0; c = 0 }) (cleared (M .p) (M .c) C M)
-  unfolding cleared
-  cleared-gone l =
-      rw (lt-ltb 0 (M .p) some, max-eq-left (le-refl (M .p)), max-eq-right n≤p, max-eq-left (le-refl (M .c)), eq-eqb (M .p) (M .p) refl, le-leb (M .c) C (rw (found, known) at l))
-
 -- the header, the entries behind their length word, and then that
 clear-written : (out : List ℕ) (sender sequence counter : ℕ) (es : List ClearEntry) → clear-length (length es) ≤ length out
     → sets (sets (sets out 0 (header-bytes-of version-2 clear-kind sender sequence counter)) first-entry-at (entries-bytes (length es) es)) count-at (unsigned-int (length es))
@@ -101,6 +82,20 @@ clear-written out sender sequence counter es room =
     sets-swap header count-at size first-entry-at (entries-bytes (length es) es) short
     ∙ clear-stored (form.clear-message version-2 sender sequence counter es) out header (sets header count-at size) _ refl room refl refl
     (rw (entries-front (length es) es none (omega arith)))
+
+-- ---- what the own clear makes of an entry that it names
+
+-- n is at most p, so the larger is (p, p, c): it stays where c is ahead of the increments received, and goes where it is not. e and `received` are what the code found.
+module _ (M : Entry) (C : ℕ) (n≤p : M .n ≤ M .p) (some : 0 < M .p) (e : Entry) (received : ℕ) (found : e ≡ M) (known : received ≡ C) where
+  pub cleared-ahead : received < e .c → _≡_ {A = Entry} (record { p = e .p; n = e .p; c = e .c }) (cleared (M .p) (M .c) C M)
+  unfolding cleared
+  cleared-ahead l =
+      rw (found, lt-ltb 0 (M .p) some, max-eq-left (le-refl (M .p)), max-eq-right n≤p, max-eq-left (le-refl (M .c)), eq-eqb (M .p) (M .p) refl, lt-leb (M .c) C (rw (found, known) at l))
+
+  pub cleared-gone : e .c ≤ received → _≡_ {A = Entry} (record { p = 0; n = 0; c = 0 }) (cleared (M .p) (M .c) C M)
+  unfolding cleared
+  cleared-gone l =
+      rw (lt-ltb 0 (M .p) some, max-eq-left (le-refl (M .p)), max-eq-right n≤p, max-eq-left (le-refl (M .c)), eq-eqb (M .p) (M .p) refl, le-leb (M .c) C (rw (found, known) at l))
 
 -- ---- entries cleared in parts
 
@@ -141,30 +136,6 @@ cleared-stays r k q j few (e ∷ es) b on h =
           ∙ put-same-row q _ (entry-of r b) i ∙ put-other (e .card) e′ (entry-of r b q) i other;
     }
 
--- ---- the value
-
--- what card j's entry adds to the value
-abbrev pub held : (ℕ → Entry) → ℕ → ℕ
-held row j = row j .p - row j .n
-
--- ---- the present entries
-
--- one card more
-present-next : (row : ℕ → Entry) (j : ℕ) → present-entries (j + 1) row ≡ present-entries j row ++ entry-sent j (row j)
-unfolding present-entries
-present-next row j = rw (add-one j)
-
--- the same, where they are only counted
-pub present-counted : (row : ℕ → Entry) (j : ℕ) (e : Entry) → e ≡ row j → length (present-entries j row) + cond (present e) 1 0 ≡ length (present-entries (j + 1) row)
-present-counted row j e found = rw (found, present-next row j, length-append) (by-test (present (row j)) (λ t. rw t) (λ t. rw t))
-
--- fewer cards have no more of them
-present-fewer : (row : ℕ → Entry) (j r : ℕ) → j ≤ r → length (present-entries j row) ≤ length (present-entries r row)
-unfolding present-entries
-present-fewer row j zero l = let none : j ≡ 0 = omega arith in rw none (omega arith)
-present-fewer row j (suc r) l =
-    by-le j r (λ m. rw length-append (omega (arith, present-fewer row j r m))) (λ m. let all : j ≡ suc r = omega arith in rw all (omega arith))
-
 -- ---- the loop over the cards
 
 -- j cards passed, over the words b and the output with its header: their present entries are written and cleared, and their values summed up
@@ -200,7 +171,7 @@ module _ (b : List ℕ) (r q : ℕ) (first : r ≡ cards b) (h : Sending b q 0) 
 
     -- the value fits
     pub making-small : value ≤ j * MAX
-    making-small = rw (m .summed) (sum-below j MAX (held (entry-of r b q)) (λ i l. let small = sent-well-formed i (omega (arith, m .within)) in omega arith))
+    making-small = rw (m .summed) (held-below (entry-of r b q) j (λ i l. sent-well-formed i (omega (arith, m .within))))
 
     module _ (l : j < r) where
       -- the next entry is as it was
@@ -261,21 +232,3 @@ module _ (b : List ℕ) (r q : ℕ) (first : r ≡ cards b) (h : Sending b q 0) 
       written ∙ rw (m .bytes, m .count) (clear-written out own (N-of r b own + 1) q es fits) in
       rw (m .summed, sent, m .count, taken, bytes, mine, first)
       (ap (λ (x : Message). with-value (reading b q .value) (sent-with format-2 b out x)) (clear-made b q (cards b) refl))
-
--- ---- the answers
-
--- zeros beside the number
-abbrev pub zeroed : ClearedOutcome → ClearedOutcome
-zeroed done = record { answer = record { number = done .answer .number; value = 0; sequence = 0; length = 0 }; words = done .words; out = done .out }
-
--- the outcome without the value
-abbrev pub unvalued : ClearedOutcome → SendOutcome
-unvalued done = record {
-  answer = record { number = done .answer .number; sequence = done .answer .sequence; length = done .answer .length };
-  words = done .words;
-  out = done .out;
-}
-
--- a call that declines has zeros there already
-pub declined-zeroed : (b : List ℕ) (q : ℕ) (out : List ℕ) (done : ClearedOutcome) → done ≡ read-and-clear-on b q out → done .answer .number ≢ 0 → zeroed done ≡ read-and-clear-on b q out
-declined-zeroed b q out done e some = let refused = read-and-clear-decided b q out .refused (rw e at some) in ap zeroed (e ∙ refused) ∙ sym refused

@@ -1,29 +1,23 @@
--- LAWS. What a count makes of the own entry, its message number by number, and its outcome; and what a call that sends answers without its value.
+-- LAWS. What a count makes of the own entry, and its outcome.
 use Prim.Native.Nat.{ℕ, _+_, _-_, _≤_, _<_, max}
-use mathlib.Core.Path.{_≡_, sym, ap, _∙_}
-use mathlib.Core.Logic.{_≢_}
+use mathlib.Core.Path.{_≡_, _∙_}
 use mathlib.Core.Bool.{cond}
 use mathlib.Core.List.{List}
 use native.Mathlib.Omega.{arith}
-use lib.ListN.{length, length-append}
-use lib.Seq.{sets}
-use borrow.Author.Tests.{lt-ltb, le-ltb, le-leb, ne-eqb}
+use borrow.Author.Tests.{lt-ltb, le-ltb, ne-eqb}
 use Rattle.protocol.specs.Limits.{MAX}
 use Rattle.protocol.specs.declared.Entry.{Entry}
 use Rattle.protocol.specs.Entry.{incremented, count-starts, count-p}
-use Rattle.protocol.specs.Chassis.{Message, increment, count-message}
+use Rattle.protocol.specs.Chassis.{increment, count-message}
 use Rattle.protocol.specs.StoreLaws.{shown}
-use Rattle.protocol.specs.StoredLists.{sets-append}
-use Rattle.wire.specs.Number.{unsigned-int, unsigned-hyper}
-use Rattle.wire.specs.NumberLaws.{length-bytes-of}
-use Rattle.wire.specs.Message.{version-2, increment-length, kind-at, sender-at, sequence-at, counter-at, header-bytes-of, message-bytes, increment-message, over}
+use Rattle.wire.specs.Message.{version-2, increment-length, message-bytes, increment-message, over}
 use Rattle.replica_model.specs.Layout.{cards, counters, own-card, C-of, N-of, entry-of, set-C, set-N, set-entry}
 use Rattle.replica_model.specs.LayoutLaws.{lawful}
-use Rattle.replica_model.specs.Format.{format-2, size-of}
-use Rattle.replica_model.specs.Calls.{SendOutcome, ClearedOutcome, not-sent, sent-with, count-of, with-value, words-after}
+use Rattle.replica_model.specs.Format.{format-2}
+use Rattle.replica_model.specs.Calls.{SendOutcome, sent-with, count-of, words-after}
 use Rattle.replica_model.specs.Senders.{Sending}
 use Rattle.layout.specs.Effects.{Receives, increment-taken}
-use Rattle.sending.specs.SendLaws.{with-room, sends-receives}
+use Rattle.sending.specs.SendLaws.{sends-receives}
 
 -- ---- the own entry e of a card that has counted `counted`, when it counts w more
 
@@ -50,15 +44,6 @@ module _ (w counted : ℕ) (e : Entry) (n≤p : e .n ≤ e .p) (c≤ : e .c ≤ 
 pub own-fits : (b : List ℕ) (r q w own : ℕ) → r ≡ cards b → own ≡ own-card b → Sending b q w
     → let e = entry-of r b q own in (e .n ≤ e .p) × (e .p ≤ e .c) × (e .c ≤ C-of b own) × (C-of b own + w ≤ MAX) × (N-of r b own < MAX)
 own-fits b r q w own first mine h = rw (mine, first) (omega (arith, h .row .entry (own-card b) (h .right .own), h .row .own≤C, h .room, h .more))
-
--- ---- the message, number by number
-
--- five stores side by side are its header
-pub header-written : (kind sender sequence counter : ℕ) (out o₁ o₂ o₃ o₄ o₅ : List ℕ) → o₁ ≡ sets out 0 (unsigned-int version-2) → o₂ ≡ sets o₁ kind-at (unsigned-int kind)
-    → o₃ ≡ sets o₂ sender-at (unsigned-int sender) → o₄ ≡ sets o₃ sequence-at (unsigned-hyper sequence) → o₅ ≡ sets o₄ counter-at (unsigned-int counter)
-    → o₅ ≡ sets out 0 (header-bytes-of version-2 kind sender sequence counter)
-header-written kind sender sequence counter out o₁ o₂ o₃ o₄ o₅ one two three four five =
-    five ∙ rw (four, three, two, one) (simp (sets-append, length-append, length-bytes-of))
 
 -- ---- the outcome, from what the code found in the words b of the own card and made
 
@@ -94,26 +79,3 @@ module _ (b out : List ℕ) (r q w own : ℕ) (first : r ≡ cards b) (mine : ow
       → _≡_ {A = SendOutcome} (record { answer = record { number = 0; sequence = messages + 1; length = increment-length version-2 }; words = b′; out = out′ }) (counted-outcome b out q w)
   unfolding count-message
   count-outcome messages b′ out′ seen applied written = rw (applied, written, seen, mine, first)
-
--- where there is room, the message is sent
-pub has-room : (b out : List ℕ) (m : Message) → size-of m ≤ length out → sent-with format-2 b out m ≡ with-room b out m
-has-room b out m l = rw (le-leb (size-of m) (length out) l)
-
--- ---- what a call that sends answers beside a value v
-
--- what it gives without the value
-abbrev sent-part : ClearedOutcome → SendOutcome
-sent-part x = record { answer = record { number = x .answer .number; sequence = x .answer .sequence; length = x .answer .length }; words = x .words; out = x .out }
-
-module _ (v : ℕ) (o : SendOutcome) (x : ClearedOutcome) (same : x ≡ with-value v o) where
-  -- it has declined: the rest of its answer is zeros
-  pub answer-refused : (b out : List ℕ) → (o .answer .number ≢ 0 → o ≡ not-sent (o .answer .number) b out) → x .answer .number ≢ 0
-      → not-sent (x .answer .number) (x .words) (x .out) ≡ o
-  answer-refused b out refused some =
-      let is = refused (rw same at some) in
-      rw same (ap (λ (s : SendOutcome). not-sent (o .answer .number) (s .words) (s .out)) is ∙ sym is)
-
-  -- it has sent
-  pub answer-sent : x .answer .number ≡ 0
-      → _≡_ {A = SendOutcome} (record { answer = record { number = 0; sequence = x .answer .sequence; length = x .answer .length }; words = x .words; out = x .out }) o
-  answer-sent none = rw none at (ap sent-part same)

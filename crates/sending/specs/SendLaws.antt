@@ -1,27 +1,29 @@
--- LAWS. What the calls that make a message share: the checks before a message is made, as one number, and the outcome of a message that is made, whatever it says; then what
--- each of the two sends.
+-- LAWS. What the calls that make a message share: the checks before a message is made, as one number, the outcome of a message that is made, whatever it says, its header, and
+-- what is answered without a value; and what a clear sends.
 use Prim.Native.Nat.{ℕ, _+_, _≤_, _<_}
 use mathlib.Core.Path.{_≡_, refl, sym, ap, _∙_}
 use mathlib.Core.Logic.{_≢_}
-use mathlib.Core.Bool.{Bool, true, cond}
+use mathlib.Core.Bool.{Bool, true}
 use mathlib.Core.List.{List, [], _∷_}
 use native.Mathlib.Omega.{arith}
-use lib.ListN.{length}
+use lib.ListN.{length, length-append}
+use lib.Seq.{sets}
 use lib.Dec.{leb}
-use borrow.Author.Tests.{lt-leb, ne-eqb}
+use borrow.Author.Tests.{lt-leb, le-leb, ne-eqb}
 use Rattle.protocol.specs.Limits.{MAX, most-amount, short-output}
 use Rattle.protocol.specs.Checks.{Check, or-else, checked, first-failing}
 use Rattle.protocol.specs.ChecksLaws.{first-refuses, first-passes, all-accepts, checked-append}
-use Rattle.protocol.specs.declared.Entry.{Entry}
-use Rattle.protocol.specs.declared.ClearEntry.{ClearEntry}
-use Rattle.protocol.specs.Entry.{present}
 use Rattle.protocol.specs.Chassis.{Message, clearing, clear-message, present-entries}
 use Rattle.protocol.specs.StoreLaws.{shown}
+use Rattle.protocol.specs.StoredLists.{sets-append}
+use Rattle.wire.specs.Number.{unsigned-int, unsigned-hyper}
+use Rattle.wire.specs.NumberLaws.{length-bytes-of}
+use Rattle.wire.specs.Message.{version-2, kind-at, sender-at, sequence-at, counter-at, header-bytes-of}
 use Rattle.replica_model.specs.declared.Cleared.{Cleared}
 use Rattle.sending.specs.declared.making.Made.{Made}
 use Rattle.replica_model.specs.Layout.{cards, own-card, C-of, N-of, entry-of}
 use Rattle.replica_model.specs.Format.{format-2, size-of}
-use Rattle.replica_model.specs.Calls.{SendOutcome, is-amount, making-checks, not-sent, sent-with, send-with, clear-of, clear-on, with-value, with-value-read, read-and-clear-on}
+use Rattle.replica_model.specs.Calls.{SendOutcome, ClearedOutcome, is-amount, making-checks, not-sent, sent-with, send-with, clear-of, clear-on, with-value, with-value-read, read-and-clear-on}
 use Rattle.replica_model.specs.Senders.{Sending}
 use Rattle.replica_model.specs.AcceptedCalls.{sending-facts}
 use Rattle.replica_model.specs.RowLaws.{tests}
@@ -92,6 +94,17 @@ module _ (b out : List ℕ) (m : Message) where
   pub too-short : length out < size-of m → not-sent short-output b out ≡ with-room b out m
   too-short l = rw (lt-leb (size-of m) (length out) l)
 
+  pub has-room : size-of m ≤ length out → sent-with format-2 b out m ≡ with-room b out m
+  has-room l = rw (le-leb (size-of m) (length out) l)
+
+-- ---- the header: five stores side by side
+
+pub header-written : (kind sender sequence counter : ℕ) (out o₁ o₂ o₃ o₄ o₅ : List ℕ) → o₁ ≡ sets out 0 (unsigned-int version-2) → o₂ ≡ sets o₁ kind-at (unsigned-int kind)
+    → o₃ ≡ sets o₂ sender-at (unsigned-int sender) → o₄ ≡ sets o₃ sequence-at (unsigned-hyper sequence) → o₅ ≡ sets o₄ counter-at (unsigned-int counter)
+    → o₅ ≡ sets out 0 (header-bytes-of version-2 kind sender sequence counter)
+header-written kind sender sequence counter out o₁ o₂ o₃ o₄ o₅ one two three four five =
+    five ∙ rw (four, three, two, one) (simp (sets-append, length-append, length-bytes-of))
+
 -- ---- what clear sends
 
 -- "send every present entry's (j, p, c)"
@@ -108,6 +121,21 @@ made-answer a = record { number = a .number; value = a .value; sequence = a .seq
 abbrev pub no-made : ℕ → Made
 no-made number = record { sequence = 0; number = number; value = 0; length = 0 }
 
--- what card j's entry e adds to a clear: itself if it is present
-abbrev pub entry-sent : ℕ → Entry → List ClearEntry
-entry-sent j e = cond (present e) (record { card = j; p = e .p; c = e .c } ∷ []) []
+-- ---- what a call that sends answers beside a value v
+
+-- what it gives without the value
+abbrev sent-part : ClearedOutcome → SendOutcome
+sent-part x = record { answer = record { number = x .answer .number; sequence = x .answer .sequence; length = x .answer .length }; words = x .words; out = x .out }
+
+module _ (v : ℕ) (o : SendOutcome) (x : ClearedOutcome) (same : x ≡ with-value v o) where
+  -- it has declined: the rest of its answer is zeros
+  pub answer-refused : (b out : List ℕ) → (o .answer .number ≢ 0 → o ≡ not-sent (o .answer .number) b out) → x .answer .number ≢ 0
+      → not-sent (x .answer .number) (x .words) (x .out) ≡ o
+  answer-refused b out refused some =
+      let is = refused (rw same at some) in
+      rw same (ap (λ (s : SendOutcome). not-sent (o .answer .number) (s .words) (s .out)) is ∙ sym is)
+
+  -- it has sent
+  pub answer-sent : x .answer .number ≡ 0
+      → _≡_ {A = SendOutcome} (record { answer = record { number = 0; sequence = x .answer .sequence; length = x .answer .length }; words = x .words; out = x .out }) o
+  answer-sent none = rw none at (ap sent-part same)

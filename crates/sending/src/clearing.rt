@@ -21,8 +21,9 @@ ghost use Rattle.replica_model.specs.Layout.{cards, counters, entry-of, layout}
 ghost use Rattle.replica_model.specs.Format.{format-2, size-of};
 ghost use Rattle.replica_model.specs.Calls.{SendOutcome, making-checks, sent-with, reading, clear-of, clear-on, ClearedOutcome, beside, with-value, read-and-clear-on};
 ghost use Rattle.replica_model.specs.Senders.{Sending};
+ghost use Rattle.replica_model.specs.PresentLaws.{entry-sent};
 ghost use Rattle.layout.specs.WordsLaws.{RowInside};
-ghost use Rattle.sending.specs.SendLaws.{made-answer, entry-sent};
+ghost use Rattle.sending.specs.SendLaws.{made-answer};
 
 // The number of the first check that fails before a message is made, 0 where none does (`making-checks` has them and their order).
 fn refusal(words: &[u64], counter: u64) -> u64

@@ -18,7 +18,8 @@ use Rattle.replica_model.specs.Calls.{row-well-formed, reading}
 use Rattle.replica_model.specs.RowLaws.{row-facts}
 use Rattle.layout.specs.WordsLaws.{few-cards}
 use Rattle.layout.specs.RowCheck.{Ordered, Checked, check-begins, check-turn, check-fails, check-too-large, check-decides}
-use Rattle.replica.specs.Sums.{held, held-fits, sum-turn-wrapped, bits-turn, bits-below, ones-bits}
+use Rattle.layout.specs.Totals.{held}
+use Rattle.replica.specs.Sums.{held-fits, sum-turn-wrapped, bits-turn, bits-below, ones-bits}
 use Rattle.replica.proofs.read.row_reading.Statement.{statement}
 use Rattle.replica.proofs.read.row_reading.Tie as tie
 
@@ -28,7 +29,7 @@ held-by r b q j = present (entry-of r b q j)
 
 abbrev Inv-loop : tie.InvT-loop
 Inv-loop words r q high₀ value₀ holders₀ j₀ high value holders j =
-    Checked words r q j high × (value ≡ sum j (held r words q) % 2 ^ 64) × (holders ≡ bits j (held-by r words q))
+    Checked words r q j high × (value ≡ sum j (held (entry-of r words q)) % 2 ^ 64) × (holders ≡ bits j (held-by r words q))
 
 abbrev μ-loop : tie.MeasureT-loop
 μ-loop words r q high₀ value₀ holders₀ j₀ high value holders j = r - j
@@ -98,7 +99,7 @@ loop-again c =
     let few = few-cards _ _ _ (start .pre) in
     let e = found .entry-at .ensures in (
       rw e (check-turn (at .loop .inv .0) (turn .loop-test .taken) (rw e at (is-ordered else1))),
-      added .wrapping-add-u64 .ensures ∙ rw (at .loop .inv .1, e) (sum-turn-wrapped (at .loop .j) (2 ^ 64) (held (args .r) (now (args .words)) (args .q))),
+      added .wrapping-add-u64 .ensures ∙ rw (at .loop .inv .1, e) (sum-turn-wrapped (at .loop .j) (2 ^ 64) (held (entry-of (args .r) (now (args .words)) (args .q)))),
       rw (at .loop .inv .2, c .bit-of .ensures, c .before .is-present .ensures, e) (bits-turn (at .loop .j) (held-by (args .r) (now (args .words)) (args .q)) (omega (arith, turn .loop-test .taken))),
     )
 

@@ -1,8 +1,8 @@
--- All but the value is what the inner call has made (`read-and-clear-on`); where that declines, the zeros are its own (`declined-zeroed`).
+-- The answer without its value (`answer-refused`, `answer-sent`), which is what `read-and-clear-on` puts beside `clear-on`.
 use borrow.Author.Needs.{needs}
-use mathlib.Core.Path.{ap}
 use Rattle.replica_model.specs.Calls.{read-and-clear-on}
-use Rattle.sending.specs.ClearLaws.{unvalued, declined-zeroed}
+use Rattle.replica_model.specs.CallsLaws.{clear-decided}
+use Rattle.sending.specs.SendLaws.{answer-refused, answer-sent}
 use Rattle.sending.proofs.clearing.clear.Statement.{statement}
 use Rattle.sending.proofs.clearing.clear.Tie as tie
 
@@ -19,7 +19,7 @@ returns : tie.Need-returns
 unfolding read-and-clear-on
 returns c =
     let done = c .before .before .before .before .before .before in
-    ap unvalued (declined-zeroed _ _ _ _ (done .made .ensures) (c .if1 .taken))
+    answer-refused _ _ _ (done .made .ensures) _ _ (clear-decided _ _ _ .refused) (c .if1 .taken)
 
 same-length-3 : tie.Need-same-length-3
 same-length-3 c = search needs
@@ -31,7 +31,7 @@ returns-2 : tie.Need-returns-2
 unfolding read-and-clear-on
 returns-2 c =
     let done = c .before .before .before .before .before .before in
-    ap unvalued (rw (c .if1 .left) at (done .made .ensures))
+    answer-sent _ _ _ (done .made .ensures) (c .if1 .left)
 
 pub clear-spec : {M : Type 1} → statement M
 clear-spec =

@@ -7,9 +7,8 @@ use lib.ListN.{length}
 use denote.Ref.{now}
 use Rattle.protocol.specs.Chassis.{present-entries}
 use Rattle.replica_model.specs.Layout.{entry-of}
-use Rattle.replica_model.specs.PresentLaws.{present-few}
+use Rattle.replica_model.specs.PresentLaws.{present-counted, present-few}
 use Rattle.layout.specs.WordsLaws.{few-cards}
-use Rattle.sending.specs.ClearLaws.{present-counted}
 use Rattle.sending.proofs.clearing.holders_of.Statement.{statement}
 use Rattle.sending.proofs.clearing.holders_of.Tie as tie
 

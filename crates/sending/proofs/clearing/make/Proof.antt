@@ -1,19 +1,17 @@
--- The header is five numbers stored side by side; then the loop (`Making`), and the outcome from all of it (`clear-sent`).
+-- The header (`header-written`); then the loop (`Making`), and the outcome from all of it (`clear-sent`).
 use borrow.Author.Needs.{needs}
 use Prim.Native.Nat.{ℕ, _+_, _-_, _≤_, _<_}
 use mathlib.Core.Path.{_≡_, sym, ap, _∙_}
 use native.Mathlib.Omega.{arith}
-use lib.ListN.{length, length-append, length-set}
+use lib.ListN.{length, length-set}
 use lib.Seq.{sets, length-sets}
 use denote.Ref.{now}
-use Rattle.protocol.specs.StoredLists.{sets-append}
 use Rattle.protocol.specs.Limits.{MAX, most-cards}
 use Rattle.protocol.specs.Rows.{WellFormed}
 use Rattle.wire.specs.Message.{version-2, clear-kind, clear-length, header-bytes-of}
-use Rattle.wire.specs.NumberLaws.{length-bytes-of}
 use Rattle.replica_model.specs.Layout.{N-of}
 use Rattle.layout.specs.WordsLaws.{few-cards, head-inside, row-N}
-use Rattle.sending.specs.SendLaws.{row-inside, own-below, own-numbers, clear-made}
+use Rattle.sending.specs.SendLaws.{row-inside, own-below, own-numbers, header-written, clear-made}
 use Rattle.sending.specs.ClearLaws.{Stays, Making, making-begins, sent-well-formed, making-stays, making-few, making-small, making-length, making-next, making-room, making-turn, clear-sent}
 use Rattle.sending.proofs.clearing.make.Statement.{statement}
 use Rattle.sending.proofs.clearing.make.Tie as tie
@@ -56,8 +54,8 @@ header c =
     let first = second .before .before .before .before in
     let mine = first .before .before in
     let start = start-of mine in
-    rw (c .write-u324 .ensures, fourth .write-u64 .ensures, fourth .before .messages-at .ensures, third .write-u323 .ensures, third .before .own-card2 .ensures, second .write-u322 .ensures, first .write-u32 .ensures, mine .own-card .ensures)
-    (simp (sets-append, length-append, length-bytes-of))
+    header-written _ _ _ _ (now (start .args .out)) _ _ _ _ _ (first .write-u32 .ensures) (second .write-u322 .ensures) (third .write-u323 .ensures) (fourth .write-u64 .ensures) (c .write-u324 .ensures)
+    ∙ rw (fourth .before .messages-at .ensures, third .before .own-card2 .ensures ∙ sym (mine .own-card .ensures))
 
 header-long : (c : tie.After-write-u324 Inv-loop μ-loop) → length (c .write-u324 .last .0) ≡ length (now (start-of (mine-of (c .before .before)) .args .out))
 header-long c = ap length (header c) ∙ simp length-sets

@@ -1,6 +1,11 @@
--- What the inner call has made; where that declines, the zeros are its own (`declined-zeroed`).
+-- What the inner call has made; where that declines, the zeros are its own (`answer-refused`).
 use borrow.Author.Needs.{needs}
-use Rattle.sending.specs.ClearLaws.{declined-zeroed}
+use mathlib.Core.Path.{ap}
+use denote.Ref.{now}
+use borrow.Author.Tests.{ne-eqb}
+use Rattle.replica_model.specs.Calls.{with-value-read, read-and-clear-on}
+use Rattle.replica_model.specs.CallsLaws.{clear-decided}
+use Rattle.sending.specs.SendLaws.{answer-refused}
 use Rattle.sending.proofs.clearing.read_and_clear.Statement.{statement}
 use Rattle.sending.proofs.clearing.read_and_clear.Tie as tie
 
@@ -14,9 +19,11 @@ same-length-2 : tie.Need-same-length-2
 same-length-2 c = search needs
 
 returns : tie.Need-returns
+unfolding read-and-clear-on
 returns c =
     let done = c .before .before .before .before .before .before in
-    declined-zeroed _ _ _ _ (done .made .ensures) (c .if1 .taken)
+    let args = done .before .before .before .before .before .args in
+    rw (ne-eqb (done .made .result .number) 0 (c .if1 .taken)) at (ap (with-value-read (now (args .words)) (args .counter)) (answer-refused _ _ _ (done .made .ensures) _ _ (clear-decided _ _ _ .refused) (c .if1 .taken)))
 
 same-length-3 : tie.Need-same-length-3
 same-length-3 c = search needs

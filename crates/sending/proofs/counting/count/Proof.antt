@@ -1,7 +1,7 @@
 -- The answer without its value (`answer-refused`, `answer-sent`).
 use borrow.Author.Needs.{needs}
 use Rattle.replica_model.specs.CallsLaws.{count-decided}
-use Rattle.sending.specs.CountLaws.{answer-refused, answer-sent}
+use Rattle.sending.specs.SendLaws.{answer-refused, answer-sent}
 use Rattle.sending.proofs.counting.count.Statement.{statement}
 use Rattle.sending.proofs.counting.count.Tie as tie
 

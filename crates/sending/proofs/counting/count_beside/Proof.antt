@@ -3,7 +3,7 @@ use borrow.Author.Needs.{needs}
 use mathlib.Core.Path.{ap}
 use Rattle.replica_model.specs.Calls.{with-value}
 use Rattle.replica_model.specs.CallsLaws.{count-decided}
-use Rattle.sending.specs.CountLaws.{answer-refused, answer-sent}
+use Rattle.sending.specs.SendLaws.{answer-refused, answer-sent}
 use Rattle.sending.proofs.counting.count_beside.Statement.{statement}
 use Rattle.sending.proofs.counting.count_beside.Tie as tie
 

@@ -8,8 +8,7 @@ use Rattle.replica_model.specs.Calls.{is-amount, making-checks, with-value, cou
 use Rattle.replica_model.specs.CallsLaws.{count-size}
 use Rattle.replica_model.specs.Senders.{Sending}
 use Rattle.layout.specs.WordsLaws.{head-inside}
-use Rattle.sending.specs.SendLaws.{sends, send-refused, send-passed, too-short}
-use Rattle.sending.specs.CountLaws.{has-room}
+use Rattle.sending.specs.SendLaws.{sends, send-refused, send-passed, too-short, has-room}
 use Rattle.sending.proofs.counting.made.Statement.{statement}
 use Rattle.sending.proofs.counting.made.Tie as tie
 

@@ -10,8 +10,8 @@ use Rattle.wire.specs.Message.{version-2}
 use Rattle.wire.specs.WriteLaws.{amount-stored}
 use Rattle.replica_model.specs.Layout.{C-of, N-of, entry-of}
 use Rattle.layout.specs.WordsLaws.{RowInside, few-cards, head-inside, row-C, row-N}
-use Rattle.sending.specs.SendLaws.{row-inside, own-below, amount-range}
-use Rattle.sending.specs.CountLaws.{own-fits, header-written, count-written, count-applied, count-outcome}
+use Rattle.sending.specs.SendLaws.{amount-range, row-inside, own-below, header-written}
+use Rattle.sending.specs.CountLaws.{own-fits, count-written, count-applied, count-outcome}
 use Rattle.sending.proofs.counting.make.Statement.{statement}
 use Rattle.sending.proofs.counting.make.Tie as tie
 
