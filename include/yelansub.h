@@ -49,12 +49,19 @@
  * Words are aligned as uint64_t. Buffers of one call must not overlap. A
  * refused call writes nothing: replica, output, logs and answers stay as they
  * were, and the other numbers of its answer are 0.
+ *
+ * In a module of the Linux kernel, link an archive that scripts/build-for has
+ * built for a kernel, and no other: examples/kernel/README.md.
  */
 #ifndef YELANSUB_H
 #define YELANSUB_H
 
+#ifdef __KERNEL__
+#include <linux/types.h>
+#else
 #include <stddef.h>
 #include <stdint.h>
+#endif
 
 #ifdef __cplusplus
 extern "C" {
@@ -66,7 +73,7 @@ extern "C" {
 /* A count is by an amount from 1 to this. */
 #define YELANSUB_MOST_AMOUNT 65535
 /* The largest sequence, and the most units that one card counts: 2^48 - 1. */
-#define YELANSUB_MAX UINT64_C(281474976710655)
+#define YELANSUB_MAX ((uint64_t)281474976710655)
 
 /* Words of one replica, for r cards and k counters. */
 #define YELANSUB_REPLICA_WORDS(cards, counters) \

@@ -102,10 +102,18 @@ static int only(const struct area *a, size_t written)
 
 static uint64_t random_state = 1;
 
+/* A number below that bound. No expression draws twice but in an order that C fixes, so that every compiler's program
+   makes the same checks. */
 static uint64_t any(uint64_t below)
 {
     random_state = random_state * UINT64_C(6364136223846793005) + UINT64_C(1442695040888963407);
     return (random_state >> 33) % below;
+}
+
+static void flip_any_bit(uint8_t *bytes, uint64_t len)
+{
+    uint64_t at = any(len), bit = any(8);
+    bytes[at] ^= (uint8_t)(1 << bit);
 }
 
 static const struct yelansub_message no_message;
@@ -799,7 +807,7 @@ static void odd_bytes(int at_end)
                 bytes[i] = (uint8_t)(any(3) ? 0 : any(3));
             put_front(bytes, length);
             if (length > 0 && any(3) == 0)
-                bytes[any(length)] ^= (uint8_t)(1 << any(8));
+                flip_any_bit(bytes, length);
             keep(&w);
             keep(&m);
             doing = "take of odd bytes";
@@ -880,16 +888,17 @@ static void damage(uint64_t *words, size_t cards, size_t each, uint8_t *logs, ui
     uint64_t *replica = words + any(cards) * each;
     uint8_t *bytes = logs + any(cards) * log;
     struct yelansub_span message = yelansub_waiting(bytes, log, 1 + any(4));
-    switch (any(5)) {
+    uint64_t what = any(5), word = any(each), card = any(cards), number = any(3);
+    switch (what) {
     case 0:
-        replica[any(each)] = any(3);
+        replica[word] = number;
         break;
     case 1:
-        replica[messages_at(cards, any(cards))] += any(3) - UINT64_C(1);
+        replica[messages_at(cards, card)] += number - 1;
         break;
     case 2:
         if (log > 0)
-            bytes[any(log)] ^= (uint8_t)(1 << any(8));
+            flip_any_bit(bytes, log);
         break;
     default:
         if (message.length > 0)
@@ -1077,8 +1086,11 @@ int main(void)
         exact_logs(at_end);
         exact_conversions(at_end);
         odd_bytes(at_end);
-        for (unsigned round = 0; round < 300; round++)
-            runs(1 + (unsigned)any(4), 1 + (unsigned)any(3), any(3) ? 400 : any(80), any(50), at_end);
+        for (unsigned round = 0; round < 300; round++) {
+            unsigned cards = 1 + (unsigned)any(4), counters = 1 + (unsigned)any(3);
+            uint64_t log = any(3) ? 400 : any(80), steps = any(50);
+            runs(cards, counters, log, steps, at_end);
+        }
         runs(YELANSUB_MOST_CARDS, YELANSUB_MOST_COUNTERS, 4096, 700, at_end);
         refused_sizes(0, 1, at_end);
         refused_sizes(1, 0, at_end);

@@ -1,7 +1,8 @@
 /*
- * The layout of every struct of yelansub.h on x86-64, System V: what the archive was compiled for.
- * reference/src/library.rs holds Rust to the same numbers. Compiled, not run, by tests/layout.sh,
- * as C and as C++; that script also sees to it that no field is left out here.
+ * The layout of every struct of yelansub.h on x86-64, System V, which is what the archive was compiled
+ * for, and on every target of scripts/build-for. reference/src/library.rs holds Rust to the same
+ * numbers. Compiled, not run, by tests/layout.sh, as C and as C++; that script also sees to it that no
+ * field is left out here.
  */
 #include <assert.h>
 #include <stdalign.h>

@@ -1,6 +1,7 @@
 #!/bin/sh
 # Compiles tests/layout.c, as C11 and, where a C++ compiler is at hand, as C++17, and sees to it that
-# it names every field of every struct of include/yelansub.h.
+# it names every field of every struct of include/yelansub.h. With another C compiler in CC, as C11 by
+# that one alone.
 set -eu
 root=$(cd "$(dirname "$0")/.." && pwd)
 work=$(mktemp -d)
@@ -36,9 +37,9 @@ fi
 sed -n 's/^\(const\)\{0,1\} *YELANSUB_\([A-Z_0-9]*\) = \([0-9]*\)[;,]\{0,1\}$/#define FORMAT_\2 \3/p' \
     "$root/include/message.x" > "$work/format.h"
 set -- -Wall -Wextra -Werror -I"$root/include" -I"$work" -fsyntax-only
-gcc -std=c11 "$@" "$root/tests/layout.c"
+${CC:-gcc} -std=c11 "$@" "$root/tests/layout.c"
 and=
-if command -v g++ > /dev/null; then
+if [ -z "${CC:-}" ] && command -v g++ > /dev/null; then
     g++ -std=c++17 "$@" -x c++ "$root/tests/layout.c"
     and=" and C++"
 fi

@@ -32,7 +32,7 @@ fn the_header_has_the_same_numbers() {
         if name == "H" || COMPUTED.contains(&name) {
             continue;
         }
-        let number = rest.trim().trim_start_matches("UINT64_C(");
+        let number = rest.trim().trim_start_matches("((uint64_t)");
         let number = number.split([' ', ')']).next().expect("a first word");
         let theirs: u64 = number.parse().unwrap_or_else(|_| panic!("{name} is {rest}"));
         let ours = ours.iter().find(|(of, _)| *of == name);
