@@ -1,23 +1,24 @@
 #!/bin/sh
-# The library in a Linux kernel: tests/for/kernel.sh TARGET DIR [MAKE-WORD...] builds examples/kernel and
-# the test module (calls.c and trace.c) over the archive in DIR, by kbuild and modpost against Debian's
-# headers in target/for/debian, which must say nothing, and loads both in Debian's kernel under
-# qemu-system. The example must print examples/kernel/expected; calls.c and trace.c what they print on
-# x86-64, over the archive in target/staticlib.
+# The library in a Linux kernel: tests/for/kernel.sh TARGET DIR KERNEL [MAKE-WORD...] builds
+# examples/kernel and the test module (calls.c and trace.c) over the archive in DIR, by kbuild and modpost
+# against the headers of one of Debian's kernels in target/for/debian, which must say nothing, and loads
+# both in that kernel under qemu-system. The example must print examples/kernel/expected; calls.c and
+# trace.c what they print on x86-64, over the archive in target/staticlib. KERNEL is stable or backports.
 set -eu
 root=$(cd "$(dirname "$0")/../.." && pwd)
-target=$1 dir=$(cd "$2" && pwd)
-shift 2
+target=$1 dir=$(cd "$2" && pwd) kernel=$3
+shift 3
 work=$(mktemp -d)
 trap 'rm -rf "$work"' EXIT
 . "$root/tests/for/target.sh"
 case $target in
 x86_64-kernel)
-    debian=$root/target/for/debian/amd64 console=ttyS0
-    machine='qemu-system-x86_64 -cpu max -vga none'
+    # Without cmpxchg16b: that of qemu 7.2 goes wrong now and then, in the allocator of later kernels.
+    debian=$root/target/for/debian/$kernel/amd64 console=ttyS0
+    machine='qemu-system-x86_64 -cpu qemu64,-cx16 -vga none'
     ;;
 aarch64-kernel)
-    debian=$root/target/for/debian/arm64 console=ttyAMA0
+    debian=$root/target/for/debian/$kernel/arm64 console=ttyAMA0
     machine='qemu-system-aarch64 -M virt -cpu max,pauth-impdef=on'
     ;;
 *) fail "no kernel" ;;
@@ -63,10 +64,12 @@ for name in calls trace; do
     due=$("$work/native")
     grep -q -x -F "$due" "$work/log" || ended "$name does not say: $due"
 done
-# What a kernel on x86-64 needs to unwind and to patch returns.
+# On x86-64 objtool has listed every return for the kernel to patch, those of the library too.
 if [ "$target" = x86_64-kernel ]; then
-    for section in .orc_unwind .return_sites; do
-        readelf -SW "$work/example/src/module/yelansub.o" | grep -q -F " $section " || fail "objtool has made no $section"
-    done
+    listed=$(readelf -rW "$work/example/src/module/yelansub_example.ko" | awk '/^Relocation section/ { section = $3 }
+        section ~ /text/ && /__x86_return_thunk/ { returns++ }
+        section ~ /return_sites/ && /R_X86_64/ { sites++ }
+        END { print returns + 0, sites + 0 }')
+    [ "${listed% *}" -gt 20 ] && [ "${listed% *}" = "${listed#* }" ] || fail "objtool has not listed the returns: $listed"
 fi
 echo "$target: the example and the test module in $(sed -n 's/^Linux version \([^ ]*\) .*/Linux \1/p' "$work/log"), under ${machine%% *}"

@@ -20,10 +20,14 @@ on_x86_64() {
 CC="${tools}gcc $of_target" "$root/tests/layout.sh" > /dev/null || fail "structs of another layout"
 for name in $names; do
     case $name in
-    calls) source=$root/tests/for/calls.c && echo 'calls: every field as it should be' > "$work/due" ;;
-    guards) source=$root/tests/guards.c && on_x86_64 "$source" > "$work/due" ;;
-    trace) source=$root/tests/for/trace.c && on_x86_64 "$source" > "$work/due" ;;
-    *) source=$root/examples/$name.c && cp "$root/examples/$name.expected" "$work/due" ;;
+    calls | trace) source=$root/tests/for/$name.c ;;
+    guards) source=$root/tests/guards.c ;;
+    *) source=$root/examples/$name.c ;;
+    esac
+    case $name in
+    calls) echo 'calls: every field as it should be' > "$work/due" ;;
+    guards | trace) on_x86_64 "$source" > "$work/due" ;;
+    *) cp "$root/examples/$name.expected" "$work/due" ;;
     esac
     case $name in
     calls | guards | trace)
