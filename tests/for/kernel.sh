@@ -13,7 +13,7 @@ trap 'rm -rf "$work"' EXIT
 . "$root/tests/for/target.sh"
 case $target in
 x86_64-kernel)
-    # Without cmpxchg16b: that of qemu 7.2 goes wrong now and then, in the allocator of later kernels.
+    # Without cmpxchg16b: with it Linux 6.12 panics now and then under qemu 7.2, module or none.
     debian=$root/target/for/debian/$kernel/amd64 console=ttyS0
     machine='qemu-system-x86_64 -cpu qemu64,-cx16 -vga none'
     ;;
