@@ -136,6 +136,22 @@ done
 exchanged x86_64-kernel yelansub_to_version_1 yelansub_to_version_2
 finds 'test result: FAILED' "$root/tests/for/reference.sh" "$work/dir"
 
+# A library that counts one less at the most, which calls.c does not try and trace.c does.
+cp "$root/scripts/build-for" "$work/copy/scripts/build-for"
+"$clang" --no-default-config -Xclang -disable-llvm-passes -S -emit-llvm -x ir "$module" -o "$work/whole.ll"
+sed 's/ i64 65535)/ i64 65534)/' "$work/whole.ll" > "$work/less.bc"
+if cmp -s "$work/whole.ll" "$work/less.bc"; then
+    echo "broken: nothing is changed in the module" >&2
+    exit 1
+fi
+whole=$module module=$work/less.bc
+build_for aarch64-kernel > "$work/said" 2>&1 || { cat "$work/said" >&2 && exit 1; }
+module=$whole
+rm -rf "$work/dir"
+cp -R "$work/copy/target/for/aarch64-kernel" "$work/dir"
+program 'trace ends with status\|trace prints' aarch64-kernel trace
+kernel 'trace does not say' aarch64-kernel "$work/dir" stable
+
 # An export that no program calls.
 changed aarch64 --add-symbol yelansub_more=.text:0,global,function
 for name in calls guards trace; do
@@ -159,7 +175,6 @@ kernel 'objtool' x86_64-kernel "$work/dir" stable
 kernel 'stops before its end\|is not loaded\|complains\|should not' x86_64-kernel "$work/dir" stable OBJECT_FILES_NON_STANDARD=y
 # A sound object that objtool has not seen, and one built without the flags of the kernel's configuration.
 kernel 'objtool has not listed' x86_64-kernel "$built/x86_64-kernel" stable OBJECT_FILES_NON_STANDARD=y
-cp "$root/scripts/build-for" "$work/copy/scripts/build-for"
 build_for x86_64-kernel > "$work/said" 2>&1 || { cat "$work/said" >&2 && exit 1; }
 kernel 'naked' x86_64-kernel "$work/copy/target/for/x86_64-kernel" stable
 kernel 'naked' x86_64-kernel "$work/copy/target/for/x86_64-kernel" backports
