@@ -2,8 +2,8 @@
 # The archive of one target as it is: tests/for/archive.sh TARGET DIR looks at the one in DIR. What it
 # needs from the host and what it exports (tests/symbols.sh); its relocations: in user space none that
 # a shared object could not have, in a kernel only direct calls; in a kernel no floating-point or
-# vector register, nothing below the stack pointer and no indirect jump on x86-64, and no x18 on
-# AArch64; and the stack that each call uses there, which must be what examples/kernel/README.md says.
+# vector register, no indirect jump, on x86-64 nothing below the stack pointer and on AArch64 no x18;
+# and the stack that each call uses there, which must be what examples/kernel/README.md says.
 set -eu
 root=$(cd "$(dirname "$0")/../.." && pwd)
 target=$1 dir=$2
@@ -58,7 +58,7 @@ stack=''
 case $target in
 *-kernel)
     # A row of the table: | `yelansub_take` | x86-64 | AArch64 |
-    awk -f "$root/tests/for/stack.awk" "$work/listing" | awk '{ print $1, $2 }' | sort > "$work/stack"
+    awk -f "$root/tests/for/stack.awk" "$work/listing" | sort > "$work/stack"
     awk -F '|' -v at="$([ "$target" = x86_64-kernel ] && echo 3 || echo 4)" \
         '/^\| `yelansub_/ { gsub(/[` ]/, ""); print $2, $at }' "$root/examples/kernel/README.md" | sort > "$work/said"
     diff "$work/said" "$work/stack" >&2 || fail "README (<) has another stack than the archive (>)"

@@ -118,6 +118,8 @@ for target in x86_64-kernel aarch64 aarch64_be riscv64; do
 done
 copied examples/kernel/expected 's/2 drops, holders 1/3 drops, holders 1/'
 finds 'the example prints (>) what it should not' "$project/tests/for/kernel.sh" aarch64-kernel "$built/aarch64-kernel" stable
+copied examples/kernel/main.c 's/^\treturn open(0)/\tWARN_ON(1);\n&/'
+finds 'the kernel complains' "$project/tests/for/kernel.sh" aarch64-kernel "$built/aarch64-kernel" stable
 
 # Exports as the module has them, which is x86-64's way and not AArch64's: every program finds it.
 sed -i -e 's/^as_c=.*/as_c=/' -e '/^grep -q . byval(/d' -e 's/^diff .*/true ||/' "$work/copy/scripts/build-for"

@@ -1,7 +1,6 @@
 /*
- * Every export called with arguments that differ from each other. Every field of its answer, and all
- * that it leaves in what it was lent, is compared with numbers worked out by hand from
- * docs/SPECIFICATION.md: an argument, a field or a struct that C hands over in another place than the
+ * Every export called with arguments that differ from each other. Every field of its answer, and all of
+ * what it was lent, is compared with numbers worked out by hand from docs/SPECIFICATION.md: an argument, a field or a struct that C hands over in another place than the
  * archive takes it shows.
  */
 #include "program.h"
@@ -57,15 +56,23 @@ static size_t put(uint8_t *to, const uint32_t *numbers, size_t count)
 }
 #define PUT(to, numbers) put((to), (numbers), sizeof(numbers) / sizeof *(numbers))
 
-/* The numbers' bytes stand at `at`, and behind them all is as `out` was before the call, up to len. */
+/* What memory holds before a call that writes there. */
+enum { MARK = 0xa5 };
+static int marked(const void *memory, size_t len)
+{
+    const uint8_t *at = memory;
+    for (; len > 0; len--)
+        if (*at++ != MARK)
+            return 0;
+    return 1;
+}
+#define MARKED(array) marked((array), sizeof(array))
+
+/* The numbers' bytes stand at `at`, and behind them, up to len, all is as before. */
 static int holds(const uint8_t *at, size_t len, const uint32_t *numbers, size_t count)
 {
-    size_t i;
     put(bytes, numbers, count);
-    for (i = 4 * count; i < len; i++)
-        if (at[i] != 0xa5)
-            return 0;
-    return memcmp(at, bytes, 4 * count) == 0;
+    return memcmp(at, bytes, 4 * count) == 0 && marked(at + 4 * count, len - 4 * count);
 }
 #define HOLDS(at, len, numbers) holds((at), (len), (numbers), sizeof(numbers) / sizeof *(numbers))
 #define LEFT(these, due) (memcmp((these), (due), sizeof(due)) == 0)
@@ -73,14 +80,19 @@ static int holds(const uint8_t *at, size_t len, const uint32_t *numbers, size_t 
 static void begin(void)
 {
     memcpy(words, before, sizeof words);
-    memset(out, 0xa5, sizeof out);
+    memset(out, MARK, sizeof out);
 }
 
 static void begin_run(void)
 {
-    memset(replicas, 0xa5, sizeof replicas);
-    memset(answers, 0xa5, sizeof answers);
-    memset(logs, 0xa5, sizeof logs);
+    memset(replicas, MARK, sizeof replicas);
+    memset(answers, MARK, sizeof answers);
+    memset(logs, MARK, sizeof logs);
+}
+
+static int run_refused(void)
+{
+    return MARKED(answers) && MARKED(replicas) && MARKED(logs);
 }
 
 static int run_left(void)
@@ -131,7 +143,7 @@ static const char *wrong_count(void)
     struct yelansub_sent a;
     begin();
     a = yelansub_count(words, WORDS, 1, 6, out, YELANSUB_INCREMENT_BYTES - 1);
-    HOLD(a.number == YELANSUB_SHORT_OUTPUT && !a.sequence && !a.length && LEFT(words, before));
+    HOLD(a.number == YELANSUB_SHORT_OUTPUT && !a.sequence && !a.length && LEFT(words, before) && MARKED(out));
     a = yelansub_count(words, WORDS, 1, 6, out, sizeof out);
     HOLD(a.number == YELANSUB_OK && a.sequence == 6 && a.length == 40);
     HOLD(LEFT(words, counted) && HOLDS(out, sizeof out, increment_sent));
@@ -143,7 +155,7 @@ static const char *wrong_clear(void)
     struct yelansub_sent a;
     begin();
     a = yelansub_clear(words, WORDS, 1, out, YELANSUB_CLEAR_BYTES(2) - 1);
-    HOLD(a.number == YELANSUB_SHORT_OUTPUT && !a.sequence && !a.length && LEFT(words, before));
+    HOLD(a.number == YELANSUB_SHORT_OUTPUT && !a.sequence && !a.length && LEFT(words, before) && MARKED(out));
     a = yelansub_clear(words, WORDS, 1, out, sizeof out);
     HOLD(a.number == YELANSUB_OK && a.sequence == 6 && a.length == 68);
     HOLD(LEFT(words, cleared) && HOLDS(out, sizeof out, clear_sent));
@@ -155,7 +167,8 @@ static const char *wrong_read_and_clear(void)
     struct yelansub_cleared a;
     begin();
     a = yelansub_read_and_clear(words, WORDS, 1, out, YELANSUB_CLEAR_BYTES(2) - 1);
-    HOLD(a.number == YELANSUB_SHORT_OUTPUT && !a.value && !a.sequence && !a.length && LEFT(words, before));
+    HOLD(a.number == YELANSUB_SHORT_OUTPUT && !a.value && !a.sequence && !a.length);
+    HOLD(LEFT(words, before) && MARKED(out));
     a = yelansub_read_and_clear(words, WORDS, 1, out, sizeof out);
     HOLD(a.number == YELANSUB_OK && a.value == 14 && a.sequence == 6 && a.length == 68);
     HOLD(LEFT(words, cleared) && HOLDS(out, sizeof out, clear_sent));
@@ -172,6 +185,7 @@ static const char *wrong_take(void)
     HOLD(a.number == YELANSUB_OK && a.sequence == 10 && LEFT(words, taken));
     a = yelansub_take(words, WORDS, out, len);
     HOLD(a.number == YELANSUB_REPEATED && !a.sequence && LEFT(words, taken));
+    HOLD(HOLDS(out, sizeof out, increment_of_2));
     return NULL;
 }
 
@@ -183,14 +197,19 @@ static const char *wrong_read_message(void)
         .version = 2, .kind = 1, .sender = 2, .sequence = 10, .counter = 1, .p = 43, .start = 1, .amount = 3};
     static const struct yelansub_message none;
     static struct yelansub_message_reading a;
-    size_t len = PUT(out, clear_sent);
+    size_t len;
+    begin();
+    len = PUT(out, clear_sent);
     a = yelansub_read_message(out, len);
     HOLD(a.number == YELANSUB_OK && same_message(&a.message, &clear));
     a = yelansub_read_message(out, len - 1);
     HOLD(a.number == YELANSUB_UNREADABLE && same_message(&a.message, &none));
+    HOLD(HOLDS(out, sizeof out, clear_sent));
+    begin();
     len = PUT(out, increment_of_2);
     a = yelansub_read_message(out, len);
     HOLD(a.number == YELANSUB_OK && same_message(&a.message, &increment));
+    HOLD(HOLDS(out, sizeof out, increment_of_2));
     return NULL;
 }
 
@@ -213,7 +232,7 @@ static const char *wrong_write_message(void)
     given = whole;
     begin();
     a = yelansub_write_message(given, out, YELANSUB_LONGEST_MESSAGE - 1);
-    HOLD(a.number == YELANSUB_SHORT_OUTPUT && !a.length && out[0] == 0xa5);
+    HOLD(a.number == YELANSUB_SHORT_OUTPUT && !a.length && MARKED(out) && same_message(&given, &whole));
     a = yelansub_write_message(given, out, sizeof out);
     HOLD(a.number == YELANSUB_OK && a.length == YELANSUB_LONGEST_MESSAGE);
     HOLD(HOLDS(out, sizeof out, due) && same_message(&given, &whole));
@@ -227,17 +246,19 @@ static const char *wrong_conversion(void)
     size_t len = PUT(log, plain_increment);
     begin();
     a = yelansub_to_version_2(log, len, out, YELANSUB_INCREMENT_BYTES - 1);
-    HOLD(a.number == YELANSUB_SHORT_OUTPUT && !a.length && out[0] == 0xa5);
+    HOLD(a.number == YELANSUB_SHORT_OUTPUT && !a.length && MARKED(out));
     a = yelansub_to_version_2(log, len, out, sizeof out);
     HOLD(a.number == YELANSUB_OK && a.length == 40 && HOLDS(out, sizeof out, its_conversion));
+    HOLD(HOLDS(log, len, plain_increment));
     len = PUT(log, its_conversion);
     begin();
     a = yelansub_to_version_1(log, len, out, sizeof out);
     HOLD(a.number == YELANSUB_OK && a.length == 36 && HOLDS(out, sizeof out, plain_increment));
+    HOLD(HOLDS(log, len, its_conversion));
     len = PUT(log, increment_of_2);
     begin();
     a = yelansub_to_version_1(log, len, out, sizeof out);
-    HOLD(a.number == YELANSUB_ABOVE_ONE && !a.length && out[0] == 0xa5);
+    HOLD(a.number == YELANSUB_ABOVE_ONE && !a.length && MARKED(out) && HOLDS(log, len, increment_of_2));
     return NULL;
 }
 
@@ -252,6 +273,7 @@ static const char *wrong_waiting(void)
     HOLD(a.start == 40 && a.length == 68);
     a = yelansub_waiting(out, len, 3);
     HOLD(!a.start && !a.length);
+    HOLD(memcmp(out, bytes, PUT(bytes, increment_sent)) == 0 && HOLDS(out + 40, sizeof out - 40, clear_sent));
     return NULL;
 }
 
@@ -261,27 +283,28 @@ static const char *wrong_run(void)
     size_t len = put(given, steps[0], 4 * RUN_STEPS);
     begin_run();
     HOLD(yelansub_run(RUN_CARDS, RUN_COUNTERS, RUN_LOG, given, len, replicas, RUN_CARDS * RUN_WORDS, logs, sizeof logs,
-                      answers, RUN_STEPS) == YELANSUB_BAD_SIZES);
+                      answers, RUN_STEPS) == YELANSUB_BAD_SIZES && run_refused());
     HOLD(yelansub_run(RUN_CARDS, RUN_COUNTERS, RUN_LOG, given, len, replicas, RUN_CARDS * RUN_WORDS, logs, sizeof logs,
                       answers, RUN_STEPS * YELANSUB_ANSWER_WORDS) == YELANSUB_OK);
-    HOLD(run_left());
+    HOLD(run_left() && holds(given, len, steps[0], 4 * RUN_STEPS));
     return NULL;
 }
 
 static const char *wrong_run_records(void)
 {
-    static struct yelansub_step given[RUN_STEPS];
+    static struct yelansub_step given[RUN_STEPS], same[RUN_STEPS];
     size_t i;
     for (i = 0; i < RUN_STEPS; i++) {
         given[i].kind = steps[i][0], given[i].first = steps[i][1];
         given[i].second = steps[i][2], given[i].amount = steps[i][3];
     }
+    memcpy(same, given, sizeof same);
     begin_run();
     HOLD(yelansub_run_records(RUN_CARDS, RUN_COUNTERS, RUN_LOG, given, RUN_STEPS, replicas, RUN_CARDS * RUN_WORDS, logs,
-                              sizeof logs, answers, RUN_STEPS) == YELANSUB_BAD_SIZES);
+                              sizeof logs, answers, RUN_STEPS) == YELANSUB_BAD_SIZES && run_refused());
     HOLD(yelansub_run_records(RUN_CARDS, RUN_COUNTERS, RUN_LOG, given, RUN_STEPS, replicas, RUN_CARDS * RUN_WORDS, logs,
                               sizeof logs, answers, RUN_STEPS * YELANSUB_ANSWER_WORDS) == YELANSUB_OK);
-    HOLD(run_left());
+    HOLD(run_left() && LEFT(given, same));
     return NULL;
 }
 
@@ -289,7 +312,7 @@ static const char *wrong_deliver_pending(void)
 {
     struct yelansub_delivered a;
     memcpy(replicas, run_due, sizeof replicas);
-    memset(logs, 0xa5, sizeof logs);
+    memset(logs, MARK, sizeof logs);
     PUT(logs, log_0);
     PUT(logs + RUN_LOG, log_1);
     a = yelansub_deliver_pending(RUN_CARDS, RUN_COUNTERS, RUN_LOG + 1, 9, replicas, RUN_CARDS * RUN_WORDS, logs, sizeof logs);
@@ -298,6 +321,7 @@ static const char *wrong_deliver_pending(void)
     HOLD(a.number == YELANSUB_OK && !a.deliveries && LEFT(replicas, run_due));
     a = yelansub_deliver_pending(RUN_CARDS, RUN_COUNTERS, RUN_LOG, 9, replicas, RUN_CARDS * RUN_WORDS, logs, sizeof logs);
     HOLD(a.number == YELANSUB_OK && a.deliveries == 1 && LEFT(replicas, pumped_due));
+    HOLD(HOLDS(logs, RUN_LOG, log_0) && HOLDS(logs + RUN_LOG, RUN_LOG, log_1));
     return NULL;
 }
 

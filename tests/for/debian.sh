@@ -46,7 +46,7 @@ for kernel in stable backports; do
         rm -rf "$of/root/lib/modules" "$of/root/usr/lib/modules" "$of/root/usr/share"
         ln -s "root/usr/src/$headers" "$of/headers"
         ln -s "root/boot/vmlinuz-${image#linux-image-}" "$of/vmlinuz"
-        # Of vmlinux kbuild would make the kernel's own debugging format, by a program more.
+        # With it kbuild makes the kernel's own debugging format, by a program more.
         rm -f "$of/headers/vmlinux"
         sed -i "s|^include /|include $of/root/|" "$of/headers/Makefile"
         [ -e "$of/vmlinuz" ]

@@ -35,7 +35,7 @@ for name in example test; do
     cp -R "$root/include" "$work/$name/include"
     make -s -C "$debian/headers" M="$work/$name/src/module" YELANSUB="$dir/libyelansub.a" CROSS_COMPILE="$tools" "$@" \
         modules > "$work/said" 2>&1 || { cat "$work/said" >&2 && fail "the $name module is not built"; }
-    # Debian's headers come without vmlinux, of which the kernel's own debugging format is made.
+    # The headers are without vmlinux here, of which kbuild would make the kernel's own debugging format.
     if grep -v '^Skipping BTF generation for ' "$work/said" >&2; then fail "kbuild warns of the $name module"; fi
     "${tools}strip" -g -o "$work/machine/$name.ko" "$work/$name/src/module/yelansub_$name.ko"
 done
@@ -60,8 +60,7 @@ if grep -E 'WARNING:|BUG:|Oops|protection fault|Call [Tt]race' "$work/log" >&2; 
 grep '^yelansub_example: card' "$work/log" > "$work/example.log" || true
 diff "$root/examples/kernel/expected" "$work/example.log" >&2 || ended "the example prints (>) what it should not"
 for name in calls trace; do
-    gcc -std=gnu11 -O2 -I"$root/include" "$root/tests/for/$name.c" -L"$root/target/staticlib" -lyelansub -o "$work/native"
-    due=$("$work/native")
+    due=$(on_x86_64 "$root/tests/for/$name.c")
     grep -q -x -F "$due" "$work/log" || ended "$name does not say: $due"
 done
 # On x86-64 objtool has listed every return for the kernel to patch, those of the library too.

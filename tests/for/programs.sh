@@ -11,12 +11,6 @@ work=$(mktemp -d)
 trap 'rm -rf "$work"' EXIT
 . "$root/tests/for/target.sh"
 
-# Native, over x86-64's own archive.
-on_x86_64() {
-    gcc -std=gnu11 -O2 -Wall -Wextra -Werror -I"$root/include" "$1" -L"$root/target/staticlib" -lyelansub -o "$work/native"
-    "$work/native"
-}
-
 CC="${tools}gcc $of_target" "$root/tests/layout.sh" > /dev/null || fail "structs of another layout"
 for name in $names; do
     case $name in

@@ -1,4 +1,4 @@
-# The stack that each export uses at most, and the largest frame in it, in bytes: "NAME BYTES FRAME".
+# The stack that each export uses at most, in bytes: "NAME BYTES".
 # Input is `objdump -dr --no-show-raw-insn` of an archive for a kernel, on x86-64 or AArch64. A frame is
 # what a function pushes and takes off the stack pointer; a call pushes 8 more on x86-64, that of the
 # export itself too. What the host's memset and memcpy use is not in it.
@@ -20,7 +20,6 @@ function deepest(of,   i, at, most) {
         print "stack: no end of calls below " of > "/dev/stderr"
         exit 1
     }
-    largest = frame[of] > largest ? frame[of] : largest
     for (i = 1; i <= called[of]; i++) {
         at = address + deepest(callee[of, i])
         most = at > most ? at : most
@@ -54,9 +53,5 @@ function goes_to(other) {
 # Behind a return the function goes on where its frame is whole.
 /\tret/ || /__x86_return_thunk/ { depth = frame[name] }
 END {
-    for (i = 1; i <= count; i++) {
-        largest = 0
-        bytes = address + deepest(exports[i])
-        print exports[i], bytes, largest
-    }
+    for (i = 1; i <= count; i++) print exports[i], address + deepest(exports[i])
 }

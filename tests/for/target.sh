@@ -1,6 +1,6 @@
 # How the tests of one target are compiled and run. Sourced with $root, $work and $target set.
 case $target in
-x86_64 | x86_64-kernel) tools='' emulator='' ;;
+x86_64-kernel) tools='' emulator='' ;;
 aarch64 | aarch64-kernel) tools=aarch64-linux-gnu- emulator=qemu-aarch64 ;;
 aarch64_be) tools=aarch64-linux-gnu- emulator=qemu-aarch64_be ;;
 riscv64) tools=riscv64-linux-gnu- emulator=qemu-riscv64 ;;
@@ -34,4 +34,9 @@ fi
 compile() {
     "${tools}gcc" -std=gnu11 -O2 -Wall -Wextra -Werror -static $of_target -I"$root/include" "$1" $with -L"$2" -lyelansub \
         -o "$3"
+}
+# on_x86_64 SOURCE: what it prints on the machine itself, over the archive for user space.
+on_x86_64() {
+    gcc -std=gnu11 -O2 -Wall -Wextra -Werror -I"$root/include" "$1" -L"$root/target/staticlib" -lyelansub -o "$work/native"
+    "$work/native"
 }
