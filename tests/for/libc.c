@@ -65,9 +65,10 @@ int munmap(void *at, size_t len)
 }
 
 /* Pages of its own for each; their length stands in front. */
+enum { FRONT = 16 };
+
 void *malloc(size_t len)
 {
-    enum { FRONT = 16 };
     size_t *pages = mmap(NULL, len + FRONT, PROT_READ | PROT_WRITE, MAP_PRIVATE | MAP_ANONYMOUS, -1, 0);
     if (pages == MAP_FAILED)
         return NULL;
@@ -78,7 +79,7 @@ void *malloc(size_t len)
 void free(void *given)
 {
     if (given != NULL) {
-        size_t *pages = (size_t *)((char *)given - 16);
+        size_t *pages = (size_t *)((char *)given - FRONT);
         munmap(pages, *pages);
     }
 }

@@ -245,7 +245,7 @@ static void make_trace(void)
     memset(&state, 0, sizeof state);
     state.random = 1, state.hash = 14695981039346656037ULL;
     for (round = 0; round < ROUNDS; round++) {
-        uint32_t slot = draw(KEPT), counter = draw(COUNTERS) + (rare(20) ? COUNTERS : 0), what = draw(13);
+        uint32_t slot = draw(KEPT), odd = rare(20), counter = draw(COUNTERS) + (odd ? COUNTERS : 0), what = draw(13);
         uint64_t *words = state.words[draw(CARDS)];
         if (round % 100 == 0)
             for (card = 0; card < CARDS; card++)
