@@ -18,7 +18,8 @@
  * w. Refused clears, and clears of other counters, do not matter for that.
  * Where a counter is quiet on a card (yelansub_read), no increment of it that
  * the card has still to receive is cancelled there already, and none that it
- * has received is still counted.
+ * has received is still counted. yelansub_active_counters names exactly the
+ * counters that are not quiet on the card.
  * yelansub_take answers a message that its sender wrote with 0 if it is the
  * next of that sender, 8 if it was taken before, 9 if an earlier one is
  * missing, 7 on the sender itself, and nothing else. What was answered 0 or 8
@@ -32,7 +33,7 @@
  *     no checksum: a link that can damage bytes needs one below.
  *   - A card is opened once, and its words survive a restart: they are stored
  *     before a message made from them, or an answer, leaves the card. Opened
- *     again, or restored from older words, it reuses sequence numbers, and the
+ *     again, or restored to an earlier state, it reuses sequence numbers, and the
  *     others answer 8 to drops that they never had.
  *   - What a card wrote is kept until every other card has answered it with 0
  *     or 8: it cannot be written again, and until it comes all later ones are
@@ -77,7 +78,7 @@ extern "C" {
 
 /* Words of one replica, for r cards and k counters. */
 #define YELANSUB_REPLICA_WORDS(cards, counters) \
-    (3 + 2 * (size_t)(cards) + 3 * (size_t)(cards) * (size_t)(counters))
+    (4 + 2 * (size_t)(cards) + 3 * (size_t)(cards) * (size_t)(counters))
 
 /* Bytes of a message: an increment, one of version 1, a clear of e entries, the longest. */
 #define YELANSUB_INCREMENT_BYTES 40
@@ -100,7 +101,7 @@ extern "C" {
 
 /* Numbers that a call answers. */
 #define YELANSUB_OK 0
-#define YELANSUB_BAD_REPLICA 1      /* replica length, r, k or own card wrong */
+#define YELANSUB_BAD_REPLICA 1      /* length, r, k, own card or bits at k and above wrong */
 #define YELANSUB_BAD_ROW 2          /* the counter's row is not well-formed */
 #define YELANSUB_BAD_COUNTER 3      /* counter not below k */
 #define YELANSUB_EXHAUSTED 4        /* the card has no message, or too few units, left */
@@ -130,10 +131,23 @@ extern "C" {
  *   1  words_len is not YELANSUB_REPLICA_WORDS(cards, counters), cards is not 1
  *      to YELANSUB_MOST_CARDS, counters is not 1 to YELANSUB_MOST_COUNTERS, or
  *      own is not below cards.
- * The words are, in order: r, k, own card; C[j] for each card, its units
- * received, w for an increment by w; N[j] for each card, its messages received;
- * then, counter by counter, p, n and c for each card, zeros where that card has
- * no entry.
+ * The words are, in order: r, k, own card; the active counters, a bit each, bit
+ * q for counter q; C[j] for each card, its units received, w for an increment by
+ * w; N[j] for each card, its messages received; then, counter by counter, p, n
+ * and c for each card, zeros where that card has no entry.
+ *
+ * Words that a library without the active counters has stored are one word
+ * shorter. Before the first call on them insert that word, words_len being the
+ * new length:
+ *     memmove(words + 4, words + 3, (words_len - 4) * sizeof *words);
+ *     words[3] = 0;
+ *     for (q = 0; q < k; q++)
+ *         for (j = 0; j < r; j++)
+ *             if (words[YELANSUB_REPLICA_WORDS(r, q) + 3 * j] != 0)
+ *                 words[3] |= (uint64_t)1 << q;
+ * Go by the length that was stored: lent with it, old words are refused with 1
+ * (11 by yelansub_deliver_pending), but lent one word longer no call can tell,
+ * and they may be accepted, read wrongly and written over.
  */
 uint64_t yelansub_open(uint64_t *words, size_t words_len,
                        uint64_t cards, uint64_t counters, uint64_t own);
@@ -147,9 +161,11 @@ struct yelansub_reading {
 
 /*
  * Reads one counter. Refused with, in this order,
- *   1  the words are no replica (length, r, k or own card),
+ *   1  the words are no replica (length, r, k, own card, or a one at bit k or
+ *      above in the active counters),
  *   3  counter is not below k,
- *   2  the counter's row is not well-formed: memory was damaged.
+ *   2  the counter's row is not well-formed, or its bit of the active counters
+ *      does not agree with it: memory was damaged.
  *
  * The counter is quiet on this card when number is 0 and holders == 0. That is
  * not value == 0: a value can be 0 while counts that are cleared here are still
@@ -158,6 +174,23 @@ struct yelansub_reading {
  * holders == 0 too, and says nothing of the counter.
  */
 struct yelansub_reading yelansub_read(const uint64_t *words, size_t words_len, uint64_t counter);
+
+struct yelansub_active {
+    uint64_t number;
+    uint64_t counters; /* bit q is one if counter q is active */
+};
+
+/*
+ * Which counters are active: a counter is active on this card while some card
+ * has an entry in its row, that is while it is not quiet. The first four words
+ * are looked at and no row, so this takes as long for 64 counters as for one.
+ * Where the words were only written by calls of this library it is the set of
+ * counters whose yelansub_read gives holders != 0: a zero bit of an accepted
+ * answer says quiet, as a read would. Bits from k on are 0. Damaged rows are not
+ * seen here, only by a call on their counter (2). Refused with
+ *   1  as yelansub_read, and nothing else; then counters is 0 and says nothing.
+ */
+struct yelansub_active yelansub_active_counters(const uint64_t *words, size_t words_len);
 
 struct yelansub_sent {
     uint64_t number;
@@ -398,8 +431,8 @@ struct yelansub_delivered {
  * read. Refused with, in this order, each over all cards before the next,
  *   11  cards is not 1 to YELANSUB_MOST_CARDS, counters is not 1 to
  *       YELANSUB_MOST_COUNTERS, or words_len or logs_len does not fit,
- *   1   a replica's first words are not cards, counters and its place: card i
- *       is in place i,
+ *   1   a replica's first words are not cards, counters and its place (card i
+ *       is in place i), or it has a one at bit k or above,
  *   2   a row of a replica is not well-formed,
  *   15  a log does not begin with its card's messages 1 to its own N, or some
  *       card's N of it is above that. Log bytes past them are not looked at.

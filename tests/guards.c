@@ -16,7 +16,7 @@ enum { PAGE = 4096, MARK = 0xa5 };
 
 /* Where words of a replica stand: the head, C of each card, N of each card, then the counters' rows
    of one entry for each card. How many words each part has follows from the header's macro. */
-enum { CARDS_AT, COUNTERS_AT, OWN_AT };
+enum { CARDS_AT, COUNTERS_AT, OWN_AT, ACTIVE_AT };
 enum { P, N, C };
 enum { HEAD_WORDS = YELANSUB_REPLICA_WORDS(0, 0) };
 enum { ENTRY_WORDS = YELANSUB_REPLICA_WORDS(1, 1) - YELANSUB_REPLICA_WORDS(1, 0) };
@@ -217,6 +217,55 @@ static int none_delivered(struct yelansub_delivered delivered, uint64_t number)
     return delivered.number == number && !delivered.deliveries;
 }
 
+/* The active counters are these; refused with 1. */
+static int active(const uint64_t *words, size_t len, uint64_t counters)
+{
+    struct yelansub_active answer = yelansub_active_counters(words, len);
+    return answer.number == YELANSUB_OK && answer.counters == counters;
+}
+
+static int no_active(const uint64_t *words, size_t len)
+{
+    struct yelansub_active answer = yelansub_active_counters(words, len);
+    return answer.number == YELANSUB_BAD_REPLICA && !answer.counters;
+}
+
+/* They are those that reads find, each of which is accepted. */
+static int active_by_reads(const uint64_t *words, size_t len, uint64_t counters)
+{
+    uint64_t found = 0;
+    for (uint64_t counter = 0; counter < counters; counter++) {
+        struct yelansub_reading reading = yelansub_read(words, len, counter);
+        if (reading.number != YELANSUB_OK)
+            return 0;
+        found |= (uint64_t)(reading.holders != 0) << counter;
+    }
+    return active(words, len, found);
+}
+
+/* Words as a library without the active counters stored them are refused; brought over by the lines
+   that the header has at yelansub_open, they are these words. */
+static void brought_over(const uint64_t *due, uint64_t r, uint64_t k, int at_end)
+{
+    size_t words_len = YELANSUB_REPLICA_WORDS(r, k);
+    struct area old = area((words_len - 1) * sizeof *due, at_end), w = area(words_len * sizeof *due, at_end);
+    uint64_t *words = in(&w);
+    memcpy(in(&old), due, ACTIVE_AT * sizeof *due);
+    memcpy((uint64_t *)in(&old) + ACTIVE_AT, due + HEAD_WORDS, (words_len - HEAD_WORDS) * sizeof *due);
+    keep(&old);
+    HOLD(no_active(in(&old), words_len - 1) && unchanged(&old));
+    memcpy(words, in(&old), old.len);
+    memmove(words + 4, words + 3, (words_len - 4) * sizeof *words);
+    words[3] = 0;
+    for (uint64_t q = 0; q < k; q++)
+        for (uint64_t j = 0; j < r; j++)
+            if (words[YELANSUB_REPLICA_WORDS(r, q) + 3 * j] != 0)
+                words[3] |= (uint64_t)1 << q;
+    HOLD(memcmp(words, due, w.len) == 0);
+    drop(&old);
+    drop(&w);
+}
+
 /* The calls that convert a log, and the versions from and to which. */
 static const struct {
     struct yelansub_written (*call)(const uint8_t *, size_t, uint8_t *, size_t);
@@ -246,6 +295,7 @@ static void no_memory(void)
         HOLD(yelansub_open(p, 0, 1, 1, 0) == YELANSUB_BAD_REPLICA);
         struct yelansub_reading reading = yelansub_read(p, 0, 0);
         HOLD(reading.number == YELANSUB_BAD_REPLICA && !reading.value && !reading.holders && !reading.holder_count);
+        HOLD(no_active(p, 0));
         for (size_t of = 0; of < MAKING; of++) {
             HOLD(refused(make(making[of], p, 0, 0, p, 0), YELANSUB_BAD_REPLICA));
             HOLD(refused(make(making[of], fresh, len, 0, p, 0), YELANSUB_SHORT_OUTPUT));
@@ -310,6 +360,7 @@ static void refused_head(uint64_t cards, uint64_t counters, uint64_t own, size_t
     doing = "calls on words with a wrong head";
     struct yelansub_reading reading = yelansub_read(words, len, 0);
     HOLD(reading.number == YELANSUB_BAD_REPLICA && !reading.value && !reading.holders && !reading.holder_count);
+    HOLD(no_active(words, len));
     for (size_t of = 0; of < MAKING; of++)
         HOLD(refused(make(making[of], words, len, 0, in(&o), o.len), YELANSUB_BAD_REPLICA));
     struct yelansub_taken taken = yelansub_take(words, len, in(&o), o.len);
@@ -336,6 +387,43 @@ static void refused_heads(int at_end)
     refused_head(2, 1, 0, YELANSUB_REPLICA_WORDS(2, 1) + 1, at_end);
     for (size_t len = 0; len <= HEAD_WORDS; len++)
         refused_head(1, 1, 0, len, at_end);
+}
+
+/* The active counters of a replica of these sizes and of every shorter length, and of one word more. But for its head
+   it holds nothing that is a row. */
+static void active_of(uint64_t cards, uint64_t counters, int at_end)
+{
+    size_t whole = YELANSUB_REPLICA_WORDS(cards, counters);
+    uint64_t all = UINT64_MAX >> (64 - counters), first = counters < 64 ? all + 1 : 0;
+    doing = "active counters";
+    for (size_t len = 0; len <= whole + 1; len++) {
+        struct area w = area(len * sizeof(uint64_t), at_end);
+        uint64_t *words = in(&w);
+        const uint64_t head[HEAD_WORDS] = {cards, counters, cards - 1, all};
+        for (size_t i = 0; i < HEAD_WORDS && i < len; i++)
+            words[i] = head[i];
+        keep(&w);
+        HOLD(len == whole ? active(words, len, all) : no_active(words, len));
+        HOLD(unchanged(&w));
+        drop(&w);
+    }
+    struct area w = area(whole * sizeof(uint64_t), at_end);
+    uint64_t *words = in(&w);
+    words[CARDS_AT] = cards;
+    words[COUNTERS_AT] = counters;
+    words[OWN_AT] = 0;
+    const uint64_t right[] = {0, 1, all, all ^ 1, all ^ all >> 1};
+    for (size_t i = 0; i < sizeof right / sizeof *right; i++) {
+        words[ACTIVE_AT] = right[i];
+        keep(&w);
+        HOLD(active(words, whole, right[i]) && unchanged(&w));
+    }
+    for (uint64_t bit = first; bit != 0; bit <<= 1) { /* none where there are 64 counters */
+        words[ACTIVE_AT] = bit | all;
+        keep(&w);
+        HOLD(no_active(words, whole) && unchanged(&w));
+    }
+    drop(&w);
 }
 
 /* Refusals of the calls on card 0 of two with one counter, one word of its fresh replica changed. */
@@ -371,6 +459,7 @@ static void refused_send(int at_end, struct change change, uint64_t counter, siz
     int reads = number == YELANSUB_EXHAUSTED || number == YELANSUB_SHORT_OUTPUT;
     struct yelansub_reading r = yelansub_read(words, WORDS, counter);
     HOLD(r.number == (reads ? YELANSUB_OK : number) && !r.value && !r.holders && !r.holder_count);
+    HOLD(number == YELANSUB_BAD_REPLICA ? no_active(words, WORDS) : active(words, WORDS, words[ACTIVE_AT]));
     HOLD(unchanged(&w) && unchanged(&o));
     drop(&w);
     drop(&o);
@@ -388,6 +477,45 @@ static void refused_take(int at_end, struct change change, struct yelansub_messa
     HOLD(unchanged(&w) && unchanged(&m));
     drop(&w);
     drop(&m);
+}
+
+/* Card 0 of two with one counter and an entry of this card, but not the counter's bit: every call is refused with 2.
+   With the bit every call is accepted. */
+static void entry_without_bit(unsigned card, int at_end)
+{
+    static const struct yelansub_message messages[] = {
+        {.version = YELANSUB_MESSAGE_VERSION, .kind = YELANSUB_MESSAGE_INCREMENT, .sender = 1, .sequence = 1, .p = 1,
+         .start = 1, .amount = 1},
+        {.version = YELANSUB_MESSAGE_VERSION, .kind = YELANSUB_MESSAGE_CLEAR, .sender = 1, .sequence = 1}};
+    for (uint64_t bit = 0; bit < 2; bit++)
+        for (size_t call = 0; call < MAKING + 3; call++) {
+            struct area w = opened(SET(ACTIVE_AT, bit), at_end), o = area(YELANSUB_LONGEST_MESSAGE, at_end);
+            uint64_t *words = in(&w), number, due = bit ? YELANSUB_OK : YELANSUB_BAD_ROW;
+            words[entry_at(CARDS, 0, card) + P] = words[entry_at(CARDS, 0, card) + C] = 9;
+            words[increments_at(0)] = card == 0 ? 9 : 0;
+            keep(&o);
+            doing = "calls on an entry with and without its bit";
+            if (call < MAKING) {
+                keep(&w);
+                number = make(making[call], words, WORDS, 0, in(&o), o.len).number;
+                HOLD(number == YELANSUB_OK || unchanged(&o));
+            } else if (call < MAKING + 2) {
+                o.len = put_message(in(&o), &messages[call - MAKING]);
+                keep(&w);
+                keep(&o);
+                number = yelansub_take(words, WORDS, in(&o), o.len).number;
+                HOLD(unchanged(&o));
+            } else {
+                keep(&w);
+                number = yelansub_read(words, WORDS, 0).number;
+            }
+            HOLD(number == due && (number == YELANSUB_OK ? only(&w, w.len) : unchanged(&w)));
+            /* A clear takes away what this card has counted, and not what has still to come. */
+            int gone = bit && card == 0 && 0 < call && call < MAKING;
+            HOLD(active(words, WORDS, gone ? 0 : bit));
+            drop(&w);
+            drop(&o);
+        }
 }
 
 /* Counts on card 0 of two, each by an amount that is none or that there is no room for. */
@@ -441,6 +569,9 @@ static void refusals(int at_end)
     refused_send(at_end, SET(COUNTERS_AT, 0), 0, any_room, YELANSUB_BAD_REPLICA);
     refused_send(at_end, SET(COUNTERS_AT, 2), 0, any_room, YELANSUB_BAD_REPLICA);
     refused_send(at_end, SET(OWN_AT, CARDS), 0, any_room, YELANSUB_BAD_REPLICA);
+    refused_send(at_end, SET(ACTIVE_AT, 2), 0, any_room, YELANSUB_BAD_REPLICA); /* a counter that there is not */
+    refused_send(at_end, SET(ACTIVE_AT, UINT64_C(1) << 63), 0, any_room, YELANSUB_BAD_REPLICA);
+    refused_send(at_end, SET(ACTIVE_AT, UINT64_MAX), 1, 0, YELANSUB_BAD_REPLICA); /* before 3, 2 and 5 */
     refused_send(at_end, none, 1, any_room, YELANSUB_BAD_COUNTER);
     refused_send(at_end, none, UINT64_MAX, any_room, YELANSUB_BAD_COUNTER);
     refused_send(at_end, SET(c0, YELANSUB_MAX + 1), 0, any_room, YELANSUB_BAD_ROW);
@@ -451,6 +582,9 @@ static void refusals(int at_end)
     refused_send(at_end, SET(entry1 + P, 1), 0, any_room, YELANSUB_BAD_ROW);
     refused_send(at_end, SET(entry1 + N, 1), 0, any_room, YELANSUB_BAD_ROW); /* n above p */
     refused_send(at_end, SET(entry1 + C, 1), 0, any_room, YELANSUB_BAD_ROW); /* no p */
+    refused_send(at_end, SET(ACTIVE_AT, 1), 0, any_room, YELANSUB_BAD_ROW);  /* no entry */
+    refused_send(at_end, SET(ACTIVE_AT, 1), 0, 0, YELANSUB_BAD_ROW);         /* before 5 */
+    refused_send(at_end, SET(ACTIVE_AT, 1), 1, any_room, YELANSUB_BAD_COUNTER);
     refused_send(at_end, SET(n0, YELANSUB_MAX), 0, any_room, YELANSUB_EXHAUSTED);
     refused_send(at_end, none, 0, YELANSUB_INCREMENT_BYTES - 1, YELANSUB_SHORT_OUTPUT);
     refused_send(at_end, none, 0, YELANSUB_CLEAR_BYTES(0) - 1, YELANSUB_SHORT_OUTPUT);
@@ -466,6 +600,13 @@ static void refusals(int at_end)
     clear.entries[0] = (struct yelansub_clear_entry){1, 1, 1};
 #define WITH(message, field, value) (m = (message), m.field = (value), m)
     refused_take(at_end, SET(CARDS_AT, CARDS + 1), increment, YELANSUB_BAD_REPLICA);
+    refused_take(at_end, SET(ACTIVE_AT, 2), increment, YELANSUB_BAD_REPLICA);
+    refused_take(at_end, SET(ACTIVE_AT, 3), WITH(clear, kind, 0), YELANSUB_BAD_REPLICA); /* before 6 */
+    refused_take(at_end, SET(ACTIVE_AT, 1), increment, YELANSUB_BAD_ROW);
+    refused_take(at_end, SET(ACTIVE_AT, 1), WITH(clear, len, 0), YELANSUB_BAD_ROW);
+    refused_take(at_end, SET(ACTIVE_AT, 1), WITH(increment, sender, 0), YELANSUB_BAD_ROW); /* before 7 */
+    refused_take(at_end, SET(ACTIVE_AT, 1), WITH(increment, counter, 1), YELANSUB_BAD_COUNTER);
+    refused_take(at_end, SET(ACTIVE_AT, 1), WITH(increment, amount, 0), YELANSUB_UNREADABLE);
     refused_take(at_end, none, WITH(increment, version, YELANSUB_MESSAGE_VERSION + 1), YELANSUB_UNREADABLE);
     refused_take(at_end, none, WITH(increment, version, YELANSUB_MESSAGE_VERSION_1), YELANSUB_UNREADABLE);
     refused_take(at_end, none, WITH(clear, version, YELANSUB_MESSAGE_VERSION_1), YELANSUB_UNREADABLE);
@@ -628,6 +769,8 @@ static void exact_buffers(unsigned cards, unsigned counters, unsigned clear, int
             HOLD(reading.number == YELANSUB_OK && reading.value == made * (made + 1) / 2);
             HOLD(reading.holder_count == made);
             HOLD(reading.holders == (UINT64_C(1) << made) - 1);
+            keep(&w[i]);
+            HOLD(active(in(&w[i]), len, (uint64_t)(made > 0) << counter) && unchanged(&w[i]));
         }
         unsigned maker = made % cards;
         size_t bytes = made < cards ? YELANSUB_INCREMENT_BYTES : YELANSUB_CLEAR_BYTES(cards);
@@ -655,7 +798,7 @@ static void exact_buffers(unsigned cards, unsigned counters, unsigned clear, int
         keep(&w[i]);
         struct yelansub_reading reading = yelansub_read(in(&w[i]), len, counter);
         HOLD(reading.number == YELANSUB_OK && !reading.value && !reading.holders && !reading.holder_count);
-        HOLD(unchanged(&w[i]));
+        HOLD(active(in(&w[i]), len, 0) && unchanged(&w[i]));
         drop(&w[i]);
     }
 }
@@ -868,6 +1011,7 @@ static unsigned values; /* how often a step read one that is not 0 */
 
 static unsigned pumped[LAST_ANSWER + 1]; /* how often delivering what waits gave each number */
 static unsigned passed_over;             /* and left something waiting below its most */
+static unsigned wrong_bits[LAST_ANSWER + 1]; /* how often it gave each where a bit is all that is wrong */
 
 /* The messages that wait on all links. */
 static uint64_t total_waiting(const uint64_t *words, size_t cards, size_t each)
@@ -881,6 +1025,23 @@ static uint64_t total_waiting(const uint64_t *words, size_t cards, size_t each)
 
 /* Where the counter of a message has its last byte. */
 enum { COUNTER_END = 23 };
+
+/* A bit of a card's active counters is lost or gained, of a counter that there is as a rule; and what that call makes
+   of it. The bit is then as before. */
+static void damaged_bit(unsigned cards, unsigned counters, uint64_t log, struct area *w, struct area *l)
+{
+    size_t each = YELANSUB_REPLICA_WORDS(cards, counters);
+    uint64_t card = any(cards), of = any(3) ? counters : 64, bit = any(of), most = any(3);
+    uint64_t *active = (uint64_t *)in(w) + card * each + ACTIVE_AT;
+    *active ^= UINT64_C(1) << bit;
+    keep(w);
+    doing = "deliveries with a wrong bit";
+    HOLD(none_delivered(yelansub_deliver_pending(cards, counters, log, most, in(w), cards * each, in(l), cards * log),
+                        bit < counters ? YELANSUB_BAD_ROW : YELANSUB_BAD_REPLICA));
+    HOLD(unchanged(w) && unchanged(l));
+    wrong_bits[bit < counters ? YELANSUB_BAD_ROW : YELANSUB_BAD_REPLICA]++;
+    *active ^= UINT64_C(1) << bit;
+}
 
 /* One word or one log byte becomes another; of a message in a log, as a rule, its counter. */
 static void damage(uint64_t *words, size_t cards, size_t each, uint8_t *logs, uint64_t log)
@@ -928,6 +1089,7 @@ static void pending(unsigned cards, unsigned counters, uint64_t log, struct area
         HOLD(unchanged(w) && unchanged(l));
         pumped[YELANSUB_BAD_SIZES]++;
     }
+    damaged_bit(cards, counters, log, w, l);
     for (unsigned wounds = 0; wounds < 6; wounds++) {
         doing = "deliveries";
         if (wounds > 0)
@@ -947,6 +1109,8 @@ static void pending(unsigned cards, unsigned counters, uint64_t log, struct area
         HOLD(delivered.deliveries <= most && delivered.deliveries == before - left && only(w, w->len));
         HOLD(delivered.deliveries > 0 || unchanged(w));
         HOLD(wounds > 0 || delivered.deliveries == (most < before ? most : before));
+        for (unsigned card = 0; card < cards; card++)
+            HOLD(active_by_reads(words + card * each, each, counters));
         passed_over += delivered.deliveries < most && left > 0;
     }
 }
@@ -1007,6 +1171,13 @@ static void runs(unsigned cards, unsigned counters, uint64_t log, size_t steps, 
         HOLD(!value || (number == YELANSUB_OK && record[i].kind == YELANSUB_STEP_READ_AND_CLEAR));
         values += value > 0;
     }
+    size_t each = YELANSUB_REPLICA_WORDS(cards, counters);
+    keep(&w);
+    for (unsigned card = 0; card < cards; card++) {
+        HOLD(active_by_reads((uint64_t *)in(&w) + card * each, each, counters));
+        brought_over((uint64_t *)in(&w) + card * each, cards, counters, at_end);
+    }
+    HOLD(unchanged(&w));
     doing = "run of records";
     struct area kept[] = {area(w.len, at_end), area(l.len, at_end), area(a.len, at_end)};
     HOLD(yelansub_run_records(cards, counters, log, record, steps, in(&kept[0]), len, in(&kept[1]),
@@ -1062,6 +1233,7 @@ static void all_answers(void)
     doing = "answers of deliveries";
     exactly(pumped, to_pump, sizeof to_pump / sizeof *to_pump);
     HOLD(passed_over > 0);
+    HOLD(wrong_bits[YELANSUB_BAD_REPLICA] > 0 && wrong_bits[YELANSUB_BAD_ROW] > 0);
     doing = "answers of conversions";
     exactly(converted[0], to_convert, 3);
     exactly(converted[1], to_convert, 4);
@@ -1072,7 +1244,14 @@ int main(void)
     no_memory();
     for (int at_end = 0; at_end < 2; at_end++) {
         refused_heads(at_end);
+        active_of(1, 1, at_end);
+        active_of(2, 7, at_end);
+        active_of(1, YELANSUB_MOST_COUNTERS - 1, at_end);
+        active_of(2, YELANSUB_MOST_COUNTERS, at_end);
+        active_of(YELANSUB_MOST_CARDS, 1, at_end);
         refusals(at_end);
+        entry_without_bit(0, at_end);
+        entry_without_bit(1, at_end);
         refused_counts(at_end);
         exact_messages(YELANSUB_MESSAGE_VERSION_1, at_end);
         exact_messages(YELANSUB_MESSAGE_VERSION, at_end);

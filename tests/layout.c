@@ -26,6 +26,10 @@ FIELD(yelansub_reading, value, 8, 8);
 FIELD(yelansub_reading, holders, 16, 8);
 FIELD(yelansub_reading, holder_count, 24, 8);
 
+STRUCT(yelansub_active, 16, 8);
+FIELD(yelansub_active, number, 0, 8);
+FIELD(yelansub_active, counters, 8, 8);
+
 STRUCT(yelansub_sent, 24, 8);
 FIELD(yelansub_sent, number, 0, 8);
 FIELD(yelansub_sent, sequence, 8, 8);

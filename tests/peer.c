@@ -2,7 +2,8 @@
  * The calls by hand in C (bench/peer/peer.c) against the library: random replicas, well-formed and
  * damaged, random lengths, counters, amounts and messages, right, damaged, cut and of version 1.
  * Every answer, word and output byte is compared, and refused calls must leave all as it was. Every
- * number that a call can answer must have been met, and no other. Built by tests/peer.sh.
+ * number that a call can answer must have been met, and no other; and so must every case of the word
+ * of bits. Built by tests/peer.sh.
  *
  * peer [CALLS [SEED]]
  */
@@ -18,17 +19,40 @@ enum { LIBRARY, PEER, SIDES };
 static const struct {
     uint64_t (*open)(uint64_t *, size_t, uint64_t, uint64_t, uint64_t);
     struct yelansub_reading (*read)(const uint64_t *, size_t, uint64_t);
+    struct yelansub_active (*active_counters)(const uint64_t *, size_t);
     struct yelansub_sent (*count)(uint64_t *, size_t, uint64_t, uint64_t, uint8_t *, size_t);
     struct yelansub_sent (*clear)(uint64_t *, size_t, uint64_t, uint8_t *, size_t);
     struct yelansub_cleared (*read_and_clear)(uint64_t *, size_t, uint64_t, uint8_t *, size_t);
     struct yelansub_taken (*take)(uint64_t *, size_t, const uint8_t *, size_t);
 } sides[SIDES] = {
-    {yelansub_open, yelansub_read, yelansub_count, yelansub_clear, yelansub_read_and_clear, yelansub_take},
-    {peer_open, peer_read, peer_count, peer_clear, peer_read_and_clear, peer_take},
+    {yelansub_open, yelansub_read, yelansub_active_counters, yelansub_count, yelansub_clear, yelansub_read_and_clear,
+     yelansub_take},
+    {peer_open, peer_read, peer_active_counters, peer_count, peer_clear, peer_read_and_clear, peer_take},
 };
 
 /* The calls; a take by what it is handed. A full clear has an entry for each card. */
-enum { OPEN, READ, COUNT, CLEAR, READ_AND_CLEAR, TAKE_INCREMENT, TAKE_CLEAR, TAKE_FULL_CLEAR, TAKE_OTHER, KINDS };
+enum {
+    OPEN, READ, ACTIVE_COUNTERS, COUNT, CLEAR, READ_AND_CLEAR, TAKE_INCREMENT, TAKE_CLEAR, TAKE_FULL_CLEAR, TAKE_OTHER,
+    KINDS
+};
+
+/* What can be met of the word of bits, by a call that is right but for that. */
+enum { BIT_K, BIT_ABOVE, NO_ENTRY, NO_BIT, OTHERS, LAST, LAST_OF_ALL, BEGINS, STAYS, ENDS, CASES };
+static const char *const cases[CASES] = {
+    [BIT_K] = "refused for bit k",
+    [BIT_ABOVE] = "refused for a bit above bit k",
+    [NO_ENTRY] = "refused for a bit without an entry",
+    [NO_BIT] = "refused for an entry without its bit",
+    [OTHERS] = "accepted with another row's bit wrong",
+    [LAST] = "accepted with bit k - 1",
+    [LAST_OF_ALL] = "accepted with bit 63",
+    [BEGINS] = "made the bit one",
+    [STAYS] = "removed an entry and left the bit",
+    [ENDS] = "made the bit zero",
+};
+#define LOOKING (1u << BIT_K | 1u << BIT_ABOVE)
+#define ALL_BITS (LOOKING | 1u << OTHERS | 1u << LAST | 1u << LAST_OF_ALL)
+#define ITS_BIT (ALL_BITS | 1u << NO_ENTRY | 1u << NO_BIT)
 
 /* The numbers that each of them can answer, after YELANSUB_OK; 0 ends the list. */
 #define SENDING YELANSUB_BAD_REPLICA, YELANSUB_BAD_ROW, YELANSUB_BAD_COUNTER, YELANSUB_EXHAUSTED, YELANSUB_SHORT_OUTPUT
@@ -36,20 +60,21 @@ enum { OPEN, READ, COUNT, CLEAR, READ_AND_CLEAR, TAKE_INCREMENT, TAKE_CLEAR, TAK
                YELANSUB_REPEATED, YELANSUB_EARLY, YELANSUB_IMPLAUSIBLE
 static const struct {
     const char *name;
-    unsigned numbers[10];
+    unsigned cases, numbers[10];
 } kinds[KINDS] = {
-    [OPEN] = {"open", {YELANSUB_BAD_REPLICA}},
-    [READ] = {"read", {YELANSUB_BAD_REPLICA, YELANSUB_BAD_COUNTER, YELANSUB_BAD_ROW}},
-    [COUNT] = {"count", {SENDING, YELANSUB_BAD_AMOUNT}},
-    [CLEAR] = {"clear", {SENDING}},
-    [READ_AND_CLEAR] = {"read and clear", {SENDING}},
-    [TAKE_INCREMENT] = {"take of an increment", {TAKING}},
-    [TAKE_CLEAR] = {"take of a clear", {TAKING}},
-    [TAKE_FULL_CLEAR] = {"take of a full clear", {TAKING}},
-    [TAKE_OTHER] = {"take of other bytes", {YELANSUB_BAD_REPLICA, YELANSUB_UNREADABLE}},
+    [OPEN] = {"open", 1u << ENDS, {YELANSUB_BAD_REPLICA}},
+    [READ] = {"read", ITS_BIT, {YELANSUB_BAD_REPLICA, YELANSUB_BAD_COUNTER, YELANSUB_BAD_ROW}},
+    [ACTIVE_COUNTERS] = {"active counters", ALL_BITS, {YELANSUB_BAD_REPLICA}},
+    [COUNT] = {"count", ITS_BIT | 1u << BEGINS, {SENDING, YELANSUB_BAD_AMOUNT}},
+    [CLEAR] = {"clear", ITS_BIT | 1u << STAYS | 1u << ENDS, {SENDING}},
+    [READ_AND_CLEAR] = {"read and clear", ITS_BIT | 1u << STAYS | 1u << ENDS, {SENDING}},
+    [TAKE_INCREMENT] = {"take of an increment", ITS_BIT | 1u << BEGINS | 1u << STAYS | 1u << ENDS, {TAKING}},
+    [TAKE_CLEAR] = {"take of a clear", ITS_BIT | 1u << BEGINS | 1u << STAYS | 1u << ENDS, {TAKING}},
+    [TAKE_FULL_CLEAR] = {"take of a full clear", ITS_BIT | 1u << BEGINS | 1u << STAYS | 1u << ENDS, {TAKING}},
+    [TAKE_OTHER] = {"take of other bytes", LOOKING, {YELANSUB_BAD_REPLICA, YELANSUB_UNREADABLE}},
 };
 enum { NUMBERS = YELANSUB_ABOVE_ONE + 1 };
-static unsigned long met[KINDS][NUMBERS];
+static unsigned long met[KINDS][NUMBERS], came[KINDS][CASES];
 
 static uint64_t random_state;
 
@@ -123,6 +148,8 @@ static uint64_t get(size_t at)
     return at < len ? words[LIBRARY][at] : 0;
 }
 
+enum { ACTIVE_AT = 3 };
+
 static size_t units_at(uint64_t card)
 {
     return YELANSUB_REPLICA_WORDS(0, 0) + card;
@@ -138,6 +165,25 @@ static size_t entry_at(uint64_t counter, uint64_t card)
     return YELANSUB_REPLICA_WORDS(r, counter) + 3 * card;
 }
 
+static int has_entry(const uint64_t *of, uint64_t counter, uint64_t card)
+{
+    const uint64_t *entry = of + entry_at(counter, card);
+    return entry[0] || entry[1] || entry[2];
+}
+
+static int row_has_entry(const uint64_t *of, uint64_t counter)
+{
+    for (uint64_t card = 0; card < r; card++)
+        if (has_entry(of, counter, card))
+            return 1;
+    return 0;
+}
+
+static int bit(const uint64_t *of, uint64_t counter)
+{
+    return of[ACTIVE_AT] >> counter & 1;
+}
+
 static void well_formed(void)
 {
     set(0, r);
@@ -151,6 +197,7 @@ static void well_formed(void)
         set(messages_at(card), percent(2) ? YELANSUB_MAX : percent(40) ? units : below(top + 1));
     }
     unsigned present = (unsigned)below(4) * 33 + 1;
+    uint64_t active = 0;
     for (uint64_t counter = 0; counter < k; counter++) {
         for (uint64_t card = 0; card < r; card++) {
             size_t at = entry_at(counter, card);
@@ -159,15 +206,28 @@ static void well_formed(void)
             uint64_t c = percent(30) ? most : between(1, most ? most : 1);
             uint64_t p = percent(30) ? c : between(1, c ? c : 1);
             int is = most && percent(present);
+            if (is && counter < 64)
+                active |= UINT64_C(1) << counter;
             set(at, is ? p : 0);
             set(at + 1, !is ? 0 : percent(30) ? p : percent(30) ? p - 1 : below(p + 1));
             set(at + 2, is ? c : 0);
         }
     }
+    set(ACTIVE_AT, active);
+}
+
+/* A bit of a counter, that of the first that there is not, or any. */
+static void damage_bit(void)
+{
+    uint64_t at = percent(60) ? below(k) : percent(50) ? k : below(64);
+    if (at < 64)
+        set(ACTIVE_AT, get(ACTIVE_AT) ^ UINT64_C(1) << at);
 }
 
 static void damage(void)
 {
+    if (percent(30))
+        return damage_bit();
     size_t at = percent(30) ? below(YELANSUB_REPLICA_WORDS(r, 0)) : below(len ? len : 1);
     set(at, odd(get(at)));
 }
@@ -184,7 +244,9 @@ static void new_replica(void)
     drop_replica();
     /* Now and then one too many, with words to match. */
     r = percent(1) ? YELANSUB_MOST_CARDS + 1 : percent(30) ? YELANSUB_MOST_CARDS : between(1, YELANSUB_MOST_CARDS);
-    k = percent(1) ? YELANSUB_MOST_COUNTERS + 1 : percent(3) ? YELANSUB_MOST_COUNTERS : between(1, 4);
+    k = percent(1)   ? YELANSUB_MOST_COUNTERS + 1
+        : percent(5) ? between(YELANSUB_MOST_COUNTERS - 1, YELANSUB_MOST_COUNTERS)
+                     : between(1, 4);
     own = below(r);
     len = YELANSUB_REPLICA_WORDS(r, k);
     if (percent(3))
@@ -207,8 +269,76 @@ static void keep(void)
         memcpy(before, words[LIBRARY], len * sizeof *before);
 }
 
+/* Where the words before the call are a replica as drawn, but for bits and rows. */
+static int as_drawn(void)
+{
+    return r <= YELANSUB_MOST_CARDS && k <= YELANSUB_MOST_COUNTERS && len == YELANSUB_REPLICA_WORDS(r, k)
+           && before[0] == r && before[1] == k && before[2] == own;
+}
+
+/* Whether a counter's row was well-formed but for its bit. */
+static int row_well_formed(uint64_t counter)
+{
+    for (uint64_t card = 0; card < r; card++) {
+        const uint64_t *entry = before + entry_at(counter, card), p = entry[0], n = entry[1], c = entry[2];
+        int present = 1 <= p && p <= c && c <= YELANSUB_MAX && n <= p;
+        if (before[units_at(card)] > YELANSUB_MAX || before[messages_at(card)] > YELANSUB_MAX
+            || (has_entry(before, counter, card) && !present) || (card == own && c > before[units_at(card)]))
+            return 0;
+    }
+    return 1;
+}
+
+/* The cases of a call that looks at this counter's row, or at none. */
+enum { NO_COUNTER = YELANSUB_MOST_COUNTERS };
+
+static void note(unsigned kind, uint64_t number, uint64_t counter)
+{
+    const uint64_t *after = words[PEER];
+    if (!as_drawn())
+        return;
+    if (kind == OPEN) {
+        came[kind][ENDS] += number == YELANSUB_OK && before[ACTIVE_AT] && !after[ACTIVE_AT];
+        return;
+    }
+    uint64_t above = k < 64 ? before[ACTIVE_AT] >> k : 0;
+    if (above) {
+        if (number != YELANSUB_BAD_REPLICA)
+            fail(kind, "a bit at k or above is not refused");
+        came[kind][above & 1 ? BIT_K : BIT_ABOVE]++;
+        return;
+    }
+    if (kind != ACTIVE_COUNTERS && counter >= k)
+        return;
+    int of_row = kind != ACTIVE_COUNTERS, others = 0, removed = 0;
+    if (of_row && bit(before, counter) != row_has_entry(before, counter)) {
+        if (number == YELANSUB_OK)
+            fail(kind, "a bit that disagrees is accepted");
+        if (number == YELANSUB_BAD_ROW && row_well_formed(counter))
+            came[kind][bit(before, counter) ? NO_ENTRY : NO_BIT]++;
+    }
+    if (number != YELANSUB_OK)
+        return;
+    for (uint64_t other = 0; other < k; other++)
+        others |= !(of_row && other == counter) && bit(before, other) != row_has_entry(before, other);
+    came[kind][OTHERS] += others;
+    if (!of_row || counter == k - 1)
+        came[kind][k == 64 ? LAST_OF_ALL : LAST] += bit(before, k - 1) || bit(after, k - 1);
+    if (!of_row)
+        return;
+    if ((before[ACTIVE_AT] ^ after[ACTIVE_AT]) & ~(UINT64_C(1) << counter))
+        fail(kind, "another counter's bit moved");
+    if (bit(after, counter) != row_has_entry(after, counter))
+        fail(kind, "the bit does not follow its row");
+    for (uint64_t card = 0; card < r; card++)
+        removed |= has_entry(before, counter, card) && !has_entry(after, counter, card);
+    came[kind][BEGINS] += !bit(before, counter) && bit(after, counter);
+    came[kind][STAYS] += removed && bit(after, counter);
+    came[kind][ENDS] += bit(before, counter) && !bit(after, counter);
+}
+
 /* After a call that both sides have answered with this number. */
-static void check(unsigned kind, uint64_t number)
+static void check(unsigned kind, uint64_t number, uint64_t counter)
 {
     if (!same(words[LIBRARY], words[PEER], len * sizeof *before))
         fail(kind, "words differ");
@@ -217,6 +347,7 @@ static void check(unsigned kind, uint64_t number)
     if (number >= NUMBERS)
         fail(kind, "no such number");
     met[kind][number]++;
+    note(kind, number, counter);
 }
 
 static void try_open(void)
@@ -228,12 +359,12 @@ static void try_open(void)
         number[side] = sides[side].open(words[side], len, cards, counters, card);
     if (number[LIBRARY] != number[PEER])
         fail(OPEN, "answers differ");
-    check(OPEN, number[PEER]);
+    check(OPEN, number[PEER], NO_COUNTER);
 }
 
 static uint64_t some_counter(void)
 {
-    return percent(94) ? below(k) : odd(k);
+    return percent(84) ? below(k) : percent(60) ? k - 1 : odd(k);
 }
 
 static void try_read(void)
@@ -247,7 +378,20 @@ static void try_read(void)
         fail(READ, "answers differ");
     if (!same(words[PEER], before, len * sizeof *before))
         fail(READ, "words changed");
-    check(READ, answer[PEER].number);
+    check(READ, answer[PEER].number, counter);
+}
+
+static void try_active_counters(void)
+{
+    struct yelansub_active answer[SIDES];
+    keep();
+    for (int side = 0; side < SIDES; side++)
+        answer[side] = sides[side].active_counters(words[side], len);
+    if (!same(&answer[LIBRARY], &answer[PEER], sizeof *answer))
+        fail(ACTIVE_COUNTERS, "answers differ");
+    if (!same(words[PEER], before, len * sizeof *before))
+        fail(ACTIVE_COUNTERS, "words changed");
+    check(ACTIVE_COUNTERS, answer[PEER].number, NO_COUNTER);
 }
 
 static uint64_t some_amount(uint64_t units)
@@ -292,7 +436,7 @@ static void try_send(unsigned kind)
         fail(kind, "output differs");
     if (answer[PEER].number != YELANSUB_OK && !same(out[PEER], out[SIDES], shift + room))
         fail(kind, "refused, and output changed");
-    check(kind, answer[PEER].number);
+    check(kind, answer[PEER].number, counter);
     for (int side = 0; side <= SIDES; side++)
         free(out[side]);
 }
@@ -377,7 +521,7 @@ static void try_take(void)
 {
     uint8_t bytes[2 * YELANSUB_LONGEST_MESSAGE] = {0}, *at = bytes;
     uint64_t sender = r > 1 && percent(95) ? (own + 1 + below(r - 1)) % r : below(YELANSUB_MOST_CARDS + 1);
-    uint64_t counter = percent(96) ? below(k) : below(YELANSUB_MOST_COUNTERS + 2);
+    uint64_t counter = percent(86) ? below(k) : percent(70) ? k - 1 : below(YELANSUB_MOST_COUNTERS + 2);
     uint64_t had = get(messages_at(sender));
     uint64_t sequence = percent(88) ? had + 1 : percent(50) ? had : odd(had);
     uint64_t kind = percent(60) ? YELANSUB_MESSAGE_CLEAR : YELANSUB_MESSAGE_INCREMENT;
@@ -405,11 +549,11 @@ static void try_take(void)
         fail(taking, "answers differ");
     if (!same(message, bytes, size))
         fail(taking, "the message changed");
-    check(taking, answer[PEER].number);
+    check(taking, answer[PEER].number, taking == TAKE_OTHER ? NO_COUNTER : get_int(bytes + 20));
     free(message);
 }
 
-/* Every number that a call can answer was met, and no other. */
+/* Every number that a call can answer was met, and every case; and no other. */
 static void all_met(unsigned long calls)
 {
     for (unsigned kind = 0; kind < KINDS; kind++) {
@@ -424,6 +568,12 @@ static void all_met(unsigned long calls)
         }
         if (can[YELANSUB_OK] && met[kind][YELANSUB_OK] < calls / 1000)
             fail(kind, "hardly ever accepted");
+        for (unsigned one = 0; one < CASES; one++) {
+            if ((came[kind][one] > 0) != (kinds[kind].cases >> one & 1)) {
+                fprintf(stderr, "peer: %s: %s %lu times\n", kinds[kind].name, cases[one], came[kind][one]);
+                exit(1);
+            }
+        }
     }
 }
 
@@ -436,12 +586,13 @@ int main(int argc, char **argv)
             new_replica();
         else if (percent(3))
             damage();
-        switch (below(16)) {
+        switch (below(17)) {
         case 0: try_open(); break;
         case 1: case 2: try_read(); break;
         case 3: case 4: try_send(COUNT); break;
         case 5: try_send(CLEAR); break;
         case 6: try_send(READ_AND_CLEAR); break;
+        case 7: try_active_counters(); break;
         default: try_take(); break;
         }
     }
@@ -449,6 +600,7 @@ int main(int argc, char **argv)
     all_met(calls);
     for (unsigned kind = 0; kind < KINDS; kind++)
         accepted += met[kind][YELANSUB_OK];
-    printf("peer: %lu calls answered alike, %lu of them accepted, every refusal of every call met\n", calls, accepted);
+    printf("peer: %lu calls answered alike, %lu of them accepted, every refusal and case of bits of every call met\n",
+           calls, accepted);
     return 0;
 }

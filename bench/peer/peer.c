@@ -1,8 +1,8 @@
 /*
  * The calls by hand, for x86-64. What makes them fast:
  *
- * - The row checks (`unsound`, `scan`) take every word once, and their only branches are ones that a
- *   well-formed row never takes.
+ * - The row checks (`unsound`, `scan`) take every word once. They branch on the row's bit, since
+ *   without it all words of the row have to be 0, and else only where a well-formed row never goes.
  * - No message is held: count and clear write the caller's bytes straight from the words, take
  *   works on the caller's bytes.
  * - A well-formed row and a message that reads make most of the maxima and cases of SPECIFICATION 4
@@ -63,12 +63,17 @@ INLINE uint64_t if_less(uint64_t x, uint64_t y)
     return -(uint64_t)(x < y);
 }
 
-/* The words: r, k, own card, C and N of every card, then the counters' rows of (p, n, c). */
+/*
+ * The words: r, k, own card, a bit for each active counter, C and N of every card, then the counters'
+ * rows of (p, n, c).
+ */
 
 #define HEAD YELANSUB_REPLICA_WORDS(0, 0)
+#define ACTIVE 3
+#define BIT(q) ((uint64_t)1 << (q))
 #define AT_C(w) ((w) + HEAD)
 #define AT_N(w, r) ((w) + HEAD + (r))
-#define AT_ROW(w, r, q) ((w) + YELANSUB_REPLICA_WORDS(r, q))
+#define AT_ROW(w, r, q) ((w) + HEAD + (r) * (2 + 3 * (size_t)(q)))
 
 INLINE int fits(size_t len, uint64_t cards, uint64_t counters, uint64_t own)
 {
@@ -76,9 +81,10 @@ INLINE int fits(size_t len, uint64_t cards, uint64_t counters, uint64_t own)
            && len == HEAD + cards * (2 + 3 * counters);
 }
 
+/* No bit above the last counter's: by k - 1 a word can be shifted, by k = 64 not. */
 INLINE int right(const uint64_t *w, size_t len)
 {
-    return len >= HEAD && fits(len, w[0], w[1], w[2]);
+    return len >= HEAD && fits(len, w[0], w[1], w[2]) && w[ACTIVE] >> (w[1] - 1) <= 1;
 }
 
 /* Two words. */
@@ -127,75 +133,113 @@ INLINE uint64_t either_word(__m128i x)
     case 1: DO(0); \
     }
 
-/*
- * Whether a row is not well-formed: cn is C of the r cards with N behind it, two words for each card,
- * e is the row. All numbers allowed are below 2^48. So what has to be at most MAX goes into one OR of
- * words that is looked at once, and so do differences that must not be negative.
- */
-INLINE int unsound(const uint64_t *cn, const uint64_t *e, size_t r, size_t own)
+INLINE int is_active(const uint64_t *w, uint64_t q)
 {
-    uint64_t flaws = cn[own] - e[3 * own + 2];
+    return (w[ACTIVE] & BIT(q)) != 0;
+}
+
+/*
+ * Whether the row of a counter that is not active is not well-formed: cn is C of the r cards with N
+ * behind it, two words for each card, e is the row, and all of the row has to be 0. All numbers allowed
+ * are below 2^48, so what has to be at most MAX goes into one OR of words that is looked at once.
+ */
+INLINE int unsound_quiet(const uint64_t *w, size_t r, uint64_t q)
+{
+    const uint64_t *cn = AT_C(w), *e = AT_ROW(w, r, q);
+    __m128i counts = _mm_setzero_si128(), row = counts;
+    uint64_t last = 0;
+#define QUIET(j) \
+    do { \
+        counts = either(counts, load(cn + 2 * (j))); \
+        row = either(row, load(e + 3 * (j))); \
+        last |= e[3 * (j) + 2]; \
+    } while (0)
+    EACH_CARD(r, QUIET)
+    return (either_word(counts) >> 48 | either_word(row) | last) != 0;
+}
+
+/* Whether counter q's row is not well-formed. The OR of all c says whether there is an entry. */
+INLINE int unsound(const uint64_t *w, size_t r, uint64_t q)
+{
+    const uint64_t *cn = AT_C(w), *e = AT_ROW(w, r, q);
+    if (!is_active(w, q))
+        return unsound_quiet(w, r, q);
+    uint64_t most = e[3 * w[2] + 2];
     __m128i counts = _mm_setzero_si128();
+    if (UNLIKELY(most > cn[w[2]]))
+        return 1;
 /* n <= p <= c, and with p = 0 no c: p - 1 is then the largest word, and adding c carries. */
 #define CARD(j) \
     do { \
         uint64_t p = e[3 * (j)], n = e[3 * (j) + 1], c = e[3 * (j) + 2], sum; \
-        flaws |= c; \
+        most |= c; \
         counts = either(counts, load(cn + 2 * (j))); \
         if (UNLIKELY(p > c) || UNLIKELY(n > p) || UNLIKELY(__builtin_add_overflow(p - 1, c, &sum))) \
             return 1; \
     } while (0)
     EACH_CARD(r, CARD)
-    return (flaws | either_word(counts)) >> 48 != 0;
+    return (most | either_word(counts)) >> 48 != 0 || UNLIKELY(most == 0);
 }
 
 /*
- * The same, with the sum of all p - n and the cards that have no entry: two cards at a time, and no
- * branch, since p - n is there already. p = 0 where p - 1 is negative, and just there c - 1 has to be.
+ * The same for a counter that is active, with the sum of all p - n and the cards that have an entry:
+ * two cards at a time, and no branch: differences that must not be negative go into the OR too, since
+ * p - n is there already. Just where p = 0, -p is not negative, and just there -c must not be.
+ * `present` is 0 where a row that is not unsound has no entry.
  */
 struct scan {
-    uint64_t unsound, value;
-    uint32_t absent;
+    uint64_t unsound, present, value;
+    uint32_t holders;
 };
 
-INLINE struct scan scan(const uint64_t *cn, const uint64_t *e, size_t r, size_t own)
+INLINE struct scan scan(const uint64_t *w, size_t r, uint64_t q)
 {
-    const __m128i minus_one = _mm_set1_epi32(-1);
-    struct scan s = {0, 0, 0};
-    uint64_t flaws = cn[own] - e[3 * own + 2];
-    __m128i some = _mm_setzero_si128(), others = some, values = some;
-/* Bits go into `absent` at the low end, since the cards are taken from the last down. */
-#define TWO(j) \
+    const uint64_t *cn = AT_C(w), *e = AT_ROW(w, r, q);
+    const __m128i zero = _mm_setzero_si128();
+    __m128i some = zero, others = zero, values = zero;
+    struct scan s = {0, 0, 0, 0};
+    uint32_t holding;
+    uint64_t left = cn[w[2]] - e[3 * w[2] + 2];
+#define TWO(p, n, c) \
+    do { \
+        __m128i value = _mm_sub_epi64(p, n); \
+        __m128i minus_p = _mm_sub_epi64(zero, p), minus_c = _mm_sub_epi64(zero, c); \
+        others = either(others, either(either(n, c), value)); \
+        some = either(some, either(_mm_sub_epi64(c, p), _mm_xor_si128(minus_c, minus_p))); \
+        values = _mm_add_epi64(values, value); \
+        holding = (uint32_t)_mm_movemask_pd(_mm_castsi128_pd(minus_p)); \
+    } while (0)
+/* Bits go into `holders` at the low end, since the cards are taken from the last down. */
+#define TWO_AT(j) \
     do { \
         __m128i first = load(e + 3 * (j)), second = load(e + 3 * (j) + 3); \
         __m128i p = _mm_unpacklo_epi64(first, second), n = _mm_unpackhi_epi64(first, second); \
         __m128i c = outer(load(e + 3 * (j) + 2), load(e + 3 * (j) + 4)); \
-        __m128i value = _mm_sub_epi64(p, n); \
-        __m128i less_p = _mm_add_epi64(p, minus_one), less_c = _mm_add_epi64(c, minus_one); \
         some = either(some, either(load(cn + 2 * (j)), load(cn + 2 * (j) + 2))); \
-        others = either(others, either(either(n, c), value)); \
-        some = either(some, either(_mm_sub_epi64(c, p), _mm_xor_si128(less_c, less_p))); \
-        values = _mm_add_epi64(values, value); \
-        s.absent = 4 * s.absent + (uint32_t)_mm_movemask_pd(_mm_castsi128_pd(less_p)); \
+        TWO(p, n, c); \
+        s.holders = 4 * s.holders + holding; \
     } while (0)
     switch (r / 2) {
-    default: TWO(10); /* fall through */
-    case 5: TWO(8); /* fall through */
-    case 4: TWO(6); /* fall through */
-    case 3: TWO(4); /* fall through */
-    case 2: TWO(2); /* fall through */
-    case 1: TWO(0); /* fall through */
+    default: TWO_AT(10); /* fall through */
+    case 5: TWO_AT(8); /* fall through */
+    case 4: TWO_AT(6); /* fall through */
+    case 3: TWO_AT(4); /* fall through */
+    case 2: TWO_AT(2); /* fall through */
+    case 1: TWO_AT(0); /* fall through */
     case 0:;
     }
     if (r % 2) {
-        uint64_t p = e[3 * r - 3], n = e[3 * r - 2], c = e[3 * r - 1];
+        /* The last card, and beside it an absent entry. */
+        __m128i last = load(e + 3 * r - 3);
+        __m128i p = _mm_move_epi64(last), n = _mm_srli_si128(last, 8);
+        __m128i c = _mm_loadl_epi64((const __m128i *)(const void *)(e + 3 * r - 1));
         some = either(some, load(cn + 2 * r - 2));
-        flaws |= n | c | (p - n) | (c - p) | ((p - 1) ^ (c - 1));
-        s.value = p - n;
-        s.absent |= (uint32_t)(p == 0) << (r - 1);
+        TWO(p, n, c);
+        s.holders |= holding << (r - 1);
     }
-    s.unsound = (flaws | either_word(either(some, others))) >> 48;
-    s.value += low_word(_mm_add_epi64(values, _mm_unpackhi_epi64(values, values)));
+    s.unsound = (left | either_word(either(some, others))) >> 48;
+    s.present = either_word(others);
+    s.value = low_word(_mm_add_epi64(values, _mm_unpackhi_epi64(values, values)));
     return s;
 }
 
@@ -204,7 +248,7 @@ uint64_t peer_open(uint64_t *words, size_t words_len,
 {
     if (!fits(words_len, cards, counters, own))
         return YELANSUB_BAD_REPLICA;
-    memset(words + HEAD, 0, (words_len - HEAD) * sizeof *words);
+    memset(words + ACTIVE, 0, (words_len - ACTIVE) * sizeof *words);
     words[0] = cards;
     words[1] = counters;
     words[2] = own;
@@ -218,14 +262,26 @@ struct yelansub_reading peer_read(const uint64_t *words, size_t words_len, uint6
     size_t r = words[0];
     if (UNLIKELY(counter >= words[1]))
         return (struct yelansub_reading){.number = YELANSUB_BAD_COUNTER};
-    struct scan s = scan(AT_C(words), AT_ROW(words, r, counter), r, words[2]);
-    if (UNLIKELY(s.unsound))
+    if (!is_active(words, counter)) {
+        if (UNLIKELY(unsound_quiet(words, r, counter)))
+            return (struct yelansub_reading){.number = YELANSUB_BAD_ROW};
+        return (struct yelansub_reading){YELANSUB_OK, 0, 0, 0};
+    }
+    struct scan s = scan(words, r, counter);
+    uint32_t holders = s.holders;
+    if (UNLIKELY(s.unsound) || UNLIKELY(holders == 0))
         return (struct yelansub_reading){.number = YELANSUB_BAD_ROW};
-    uint32_t holders = s.absent ^ (((uint32_t)1 << r) - 1);
     uint32_t ones = holders - (holders >> 1 & 0x555);
     ones = (ones & 0x333) + (ones >> 2 & 0x333);
     ones = (ones + (ones >> 4) + (ones >> 8)) & 0xf;
     return (struct yelansub_reading){YELANSUB_OK, s.value, holders, ones};
+}
+
+struct yelansub_active peer_active_counters(const uint64_t *words, size_t words_len)
+{
+    if (UNLIKELY(!right(words, words_len)))
+        return (struct yelansub_active){.number = YELANSUB_BAD_REPLICA};
+    return (struct yelansub_active){YELANSUB_OK, words[ACTIVE]};
 }
 
 /* The checks of count and clear before the output's length, and the value if `reading`. */
@@ -243,17 +299,19 @@ INLINE struct unsent unsent(const uint64_t *words, size_t words_len, uint64_t co
         return (struct unsent){YELANSUB_BAD_COUNTER, 0};
     if (counting && UNLIKELY(amount - 1 >= YELANSUB_MOST_AMOUNT))
         return (struct unsent){YELANSUB_BAD_AMOUNT, 0};
-    const uint64_t *cn = AT_C(words), *row = AT_ROW(words, r, counter);
-    struct scan s = {0, 0, 0};
-    if (reading)
-        s = scan(cn, row, r, own);
-    else
-        s.unsound = (uint64_t)unsound(cn, row, r, own);
-    if (UNLIKELY(s.unsound))
+    uint64_t value = 0;
+    if (reading && is_active(words, counter)) {
+        struct scan s = scan(words, r, counter);
+        if (UNLIKELY(s.unsound) || UNLIKELY(s.present == 0))
+            return (struct unsent){YELANSUB_BAD_ROW, 0};
+        value = s.value;
+    } else if (UNLIKELY(unsound(words, r, counter))) {
         return (struct unsent){YELANSUB_BAD_ROW, 0};
-    if (UNLIKELY(AT_N(words, r)[own] == MAX) || (counting && UNLIKELY(cn[own] + amount > MAX)))
+    }
+    if (UNLIKELY(AT_N(words, r)[own] == MAX)
+        || (counting && UNLIKELY(AT_C(words)[own] + amount > MAX)))
         return (struct unsent){YELANSUB_EXHAUSTED, 0};
-    return (struct unsent){YELANSUB_OK, s.value};
+    return (struct unsent){YELANSUB_OK, value};
 }
 
 struct yelansub_sent peer_count(uint64_t *restrict words, size_t words_len, uint64_t counter,
@@ -270,7 +328,8 @@ struct yelansub_sent peer_count(uint64_t *restrict words, size_t words_len, uint
     uint64_t known = *C, start = m[0] == 0;
     uint64_t p = (start ? known : m[0]) + amount;
     uint64_t sequence = *N + 1;
-    /* The own c is at most C, so the new one is C + w; n <= p, so nothing is removed. */
+    /* The own c is at most C, so the new one is C + w; n <= p - w, so nothing is removed. */
+    words[ACTIVE] |= BIT(counter);
     m[0] = p;
     m[1] = start ? known : m[1];
     m[2] = known + amount;
@@ -309,20 +368,28 @@ INLINE struct yelansub_cleared clear(uint64_t *restrict words, size_t words_len,
     put64(out + 12, sequence);
     put32(out + 20, (uint32_t)counter);
     uint8_t *at = out + CLEAR_BYTES;
+    /* The bit says whether there is anything to go through. */
+    if (words[ACTIVE] & BIT(counter)) {
+        int ahead = 0;
 #pragma GCC unroll 4
-    for (size_t j = 0; j < r; j++, e += 3) {
-        uint64_t p = e[0], c = e[2];
-        if (p == 0)
-            continue;
-        put32(at, (uint32_t)j);
-        put64(at + 4, p);
-        put64(at + 12, c);
-        at += ENTRY_BYTES;
-        /* n <= p, so the maximum is (p, p, c), which goes unless c is ahead of C. */
-        if (UNLIKELY(c > AT_C(words)[j]))
-            e[1] = p;
-        else
-            memset(e, 0, 3 * sizeof *e);
+        for (size_t j = 0; j < r; j++, e += 3) {
+            uint64_t p = e[0], c = e[2];
+            if (p == 0)
+                continue;
+            put32(at, (uint32_t)j);
+            put64(at + 4, p);
+            put64(at + 12, c);
+            at += ENTRY_BYTES;
+            /* n <= p, so the maximum is (p, p, c), which goes unless c is ahead of C. */
+            if (UNLIKELY(c > AT_C(words)[j])) {
+                e[1] = p;
+                ahead = 1;
+            } else {
+                memset(e, 0, 3 * sizeof *e);
+            }
+        }
+        if (LIKELY(!ahead))
+            words[ACTIVE] &= ~BIT(counter);
     }
     size_t length = (size_t)(at - out);
     put32(out + 24, (uint32_t)(length - CLEAR_BYTES) / ENTRY_BYTES);
@@ -349,7 +416,7 @@ INLINE uint64_t untaken(const uint64_t *words, uint32_t counter, uint32_t sender
     size_t r = words[0];
     if (UNLIKELY(counter >= words[1]))
         return YELANSUB_BAD_COUNTER;
-    if (UNLIKELY(unsound(AT_C(words), AT_ROW(words, r, counter), r, words[2])))
+    if (UNLIKELY(unsound(words, r, counter)))
         return YELANSUB_BAD_ROW;
     if (UNLIKELY(sender >= r) || UNLIKELY(sender == words[2]) || UNLIKELY(!known))
         return YELANSUB_BAD_CARD;
@@ -360,6 +427,15 @@ INLINE uint64_t untaken(const uint64_t *words, uint32_t counter, uint32_t sender
 }
 
 #define REFUSED(number) ((struct yelansub_taken){number, 0})
+
+/* Whether some card has an entry in a row that is well-formed but for its bit. */
+INLINE int any_present(const uint64_t *row, size_t r)
+{
+    uint64_t any = 0;
+#define PRESENT(j) any |= row[3 * (j)]
+    EACH_CARD(r, PRESENT)
+    return any != 0;
+}
 
 INLINE struct yelansub_taken take_increment(uint64_t *restrict words,
                                             const uint8_t *restrict message, size_t message_len)
@@ -378,7 +454,7 @@ INLINE struct yelansub_taken take_increment(uint64_t *restrict words,
         return REFUSED(number);
     size_t r = words[0];
     uint64_t *C = AT_C(words) + sender, *N = AT_N(words, r) + sender;
-    uint64_t *m = AT_ROW(words, r, counter) + 3 * sender;
+    uint64_t *row = AT_ROW(words, r, counter), *m = row + 3 * sender;
     /* With start p = c, without it w < p <= c; so p - w is C, or 1 to C. */
     uint64_t c = *C + amount, before = p - amount;
     if (UNLIKELY(c > MAX) || UNLIKELY(start ? before != *C : before - 1 >= *C))
@@ -387,21 +463,30 @@ INLINE struct yelansub_taken take_increment(uint64_t *restrict words,
     if (start | (mp == 0))
         mn = max(mn, before);
     mp = max(mp, p);
-    /* n is at most p, and the new c at least C + w: removed where both are equal. */
-    uint64_t keep = if_less(mn, mp) | if_less(c, mc);
-    m[0] = mp & keep;
-    m[1] = mn & keep;
-    m[2] = mc & keep;
+    /*
+     * n is at most p, and the new c at least C + w: removed where both are equal. The bit is then one,
+     * since there was an entry: with none n is p - w.
+     */
+    if (LIKELY(mn < mp) || mc != c) {
+        m[0] = mp;
+        m[1] = mn;
+        m[2] = mc;
+        words[ACTIVE] |= BIT(counter);
+    } else {
+        memset(m, 0, 3 * sizeof *m);
+        if (!any_present(row, r))
+            words[ACTIVE] ^= BIT(counter);
+    }
     *C = c;
     *N = sequence;
     return (struct yelansub_taken){YELANSUB_OK, sequence};
 }
 
 /*
- * What one entry (q, d) of a clear makes of m. An absent m needs no case of its own: the maximum is
- * (q, q, d), which goes unless d is ahead of C. p = n where n has reached p.
+ * What one entry (q, d) of a clear makes of m; not 0 if m has an entry then. An absent m needs no case
+ * of its own: the maximum is (q, q, d), which goes unless d is ahead of C. p = n where n has reached p.
  */
-INLINE void clear_entry(uint64_t *m, uint64_t q, uint64_t d, uint64_t C)
+INLINE uint64_t clear_entry(uint64_t *m, uint64_t q, uint64_t d, uint64_t C)
 {
     uint64_t p = m[0], n = max(m[1], q), c = max(m[2], d);
     uint64_t keep = if_less(n, p);
@@ -412,47 +497,13 @@ INLINE void clear_entry(uint64_t *m, uint64_t q, uint64_t d, uint64_t C)
     m[0] = p & keep;
     m[1] = n & keep;
     m[2] = c & keep;
+    return keep;
 }
 
-/*
- * A clear with an entry for each of the r cards: which card each is for is known beforehand. 0 if
- * anything is amiss, and nothing is changed; take_clear then says what.
- */
-static __attribute__((noinline)) int take_full_clear(uint64_t *restrict words,
-                                                     const uint8_t *restrict message, size_t r,
-                                                     uint32_t sender, uint32_t counter,
-                                                     uint64_t sequence)
-{
-    size_t own = words[2];
-    if (UNLIKELY(counter >= words[1]) || UNLIKELY(sender >= r) || UNLIKELY(sender == own))
-        return 0;
-    const uint64_t *C = AT_C(words);
-    uint64_t *N = AT_N(words, r), *row = AT_ROW(words, r, counter), high = 0;
-    const uint8_t *entries = message + CLEAR_BYTES;
-#define NAMED(j) get32(entries + ENTRY_BYTES * (j))
-#define Q(j) get64(entries + ENTRY_BYTES * (j) + 4)
-#define D(j) get64(entries + ENTRY_BYTES * (j) + 12)
-    if (UNLIKELY(N[sender] + 1 != sequence) || UNLIKELY(D(own) > C[own])
-        || UNLIKELY(D((size_t)sender) > C[sender]) || UNLIKELY(unsound(C, row, r, own)))
-        return 0;
-#define CHECK(j) \
-    do { \
-        uint64_t q = Q(j), d = D(j); \
-        if (UNLIKELY(NAMED(j) != (j)) || UNLIKELY(q - 1 >= d)) \
-            return 0; \
-        high |= d; \
-    } while (0)
-    EACH_CARD(r, CHECK)
-    if (UNLIKELY(high > MAX))
-        return 0;
-#define APPLY(j) clear_entry(row + 3 * (j), Q(j), D(j), C[j])
-    EACH_CARD(r, APPLY)
-    N[sender] = sequence;
-    return 1;
-}
-
-INLINE struct yelansub_taken take_clear(uint64_t *restrict words, const uint8_t *restrict message,
-                                        size_t message_len)
+/* The kinds of clear have functions of their own, so that none saves registers for another. */
+static __attribute__((noinline)) struct yelansub_taken take_clear(uint64_t *restrict words,
+                                                                  const uint8_t *restrict message,
+                                                                  size_t message_len)
 {
     size_t entries = get32(message + 24);
     if (UNLIKELY(entries > YELANSUB_MOST_CARDS)
@@ -464,8 +515,6 @@ INLINE struct yelansub_taken take_clear(uint64_t *restrict words, const uint8_t 
         || UNLIKELY(sequence - 1 >= MAX))
         return REFUSED(YELANSUB_UNREADABLE);
     size_t r = words[0], own = words[2];
-    if (entries == r && LIKELY(take_full_clear(words, message, r, sender, counter, sequence)))
-        return (struct yelansub_taken){YELANSUB_OK, sequence};
     const uint8_t *first = message + CLEAR_BYTES, *end = message + message_len, *at;
     uint64_t high = 0, low = 0;
     for (at = first; at != end; at += ENTRY_BYTES) {
@@ -487,12 +536,59 @@ INLINE struct yelansub_taken take_clear(uint64_t *restrict words, const uint8_t 
         if (((card == own) | (card == sender)) && UNLIKELY(get64(at + 12) > C[card]))
             return REFUSED(YELANSUB_IMPLAUSIBLE);
     }
-    uint64_t *row = AT_ROW(words, r, counter);
+    uint64_t *row = AT_ROW(words, r, counter), kept = 0;
     for (at = first; at != end; at += ENTRY_BYTES) {
         size_t card = get32(at);
-        clear_entry(row + 3 * card, get64(at + 4), get64(at + 12), C[card]);
+        kept |= clear_entry(row + 3 * card, get64(at + 4), get64(at + 12), C[card]);
     }
+    if (kept)
+        words[ACTIVE] |= BIT(counter);
+    else if (entries && !any_present(row, r))
+        words[ACTIVE] &= ~BIT(counter);
     AT_N(words, r)[sender] = sequence;
+    return (struct yelansub_taken){YELANSUB_OK, sequence};
+}
+
+/*
+ * A clear with an entry for each of the r cards, and as long: which card each is for is known
+ * beforehand. If anything is amiss nothing is changed, and take_clear says what.
+ */
+static __attribute__((noinline)) struct yelansub_taken take_full_clear(uint64_t *restrict words,
+                                                                       const uint8_t *restrict message,
+                                                                       size_t message_len)
+{
+#define AMISS(x) \
+    if (UNLIKELY(x)) \
+        return take_clear(words, message, message_len)
+    uint32_t sender = get32(message + 8), counter = get32(message + 20);
+    uint64_t sequence = get64(message + 12);
+    size_t r = words[0], own = words[2];
+    AMISS(counter >= words[1]);
+    AMISS(sender >= r);
+    AMISS(sender == own);
+    const uint64_t *C = AT_C(words);
+    uint64_t *N = AT_N(words, r), *row = AT_ROW(words, r, counter), high = sequence, kept = 0;
+    const uint8_t *entries = message + CLEAR_BYTES;
+#define NAMED(j) get32(entries + ENTRY_BYTES * (j))
+#define Q(j) get64(entries + ENTRY_BYTES * (j) + 4)
+#define D(j) get64(entries + ENTRY_BYTES * (j) + 12)
+    AMISS(N[sender] + 1 != sequence);
+    AMISS(D(own) > C[own]);
+    AMISS(D((size_t)sender) > C[sender]);
+    AMISS(unsound(words, r, counter));
+#define CHECK(j) \
+    do { \
+        uint64_t q = Q(j), d = D(j); \
+        AMISS(NAMED(j) != (j)); \
+        AMISS(q - 1 >= d); \
+        high |= d; \
+    } while (0)
+    EACH_CARD(r, CHECK)
+    AMISS(high > MAX);
+#define APPLY(j) kept |= clear_entry(row + 3 * (j), Q(j), D(j), C[j])
+    EACH_CARD(r, APPLY)
+    words[ACTIVE] = (words[ACTIVE] & ~BIT(counter)) | (kept & BIT(counter));
+    N[sender] = sequence;
     return (struct yelansub_taken){YELANSUB_OK, sequence};
 }
 
@@ -506,7 +602,10 @@ struct yelansub_taken peer_take(uint64_t *words, size_t words_len,
     uint64_t kind = get64(message);
     if (kind == INCREMENT)
         return take_increment(words, message, message_len);
-    if (LIKELY(kind == CLEAR))
-        return take_clear(words, message, message_len);
-    return REFUSED(YELANSUB_UNREADABLE);
+    if (UNLIKELY(kind != CLEAR))
+        return REFUSED(YELANSUB_UNREADABLE);
+    size_t entries = get32(message + 24);
+    if (entries == words[0] && LIKELY(message_len == YELANSUB_CLEAR_BYTES(entries)))
+        return take_full_clear(words, message, message_len);
+    return take_clear(words, message, message_len);
 }

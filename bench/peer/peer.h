@@ -11,6 +11,7 @@
 uint64_t peer_open(uint64_t *words, size_t words_len,
                    uint64_t cards, uint64_t counters, uint64_t own);
 struct yelansub_reading peer_read(const uint64_t *words, size_t words_len, uint64_t counter);
+struct yelansub_active peer_active_counters(const uint64_t *words, size_t words_len);
 struct yelansub_sent peer_count(uint64_t *words, size_t words_len, uint64_t counter,
                                 uint64_t amount, uint8_t *out, size_t out_len);
 struct yelansub_sent peer_clear(uint64_t *words, size_t words_len, uint64_t counter,

@@ -41,8 +41,11 @@ pub struct State {
     /// Cards of the chassis that is run, and how many deliveries are made there at most.
     cards: usize,
     most: u64,
-    /// The sum of the numbers that calls on one replica have answered.
+    /// The number that every call is to answer, and the sum of those that were answered.
+    intended: u64,
     numbers: u64,
+    /// The active counters, as answered or read.
+    active: u64,
 }
 
 impl State {
@@ -101,6 +104,7 @@ pub fn calls() -> Vec<Item> {
         &[|s| each(s, library_clear), |s| each(s, reference_clear), |s| each(s, c_clear)];
     let take: &[Work] =
         &[|s| each(s, library_take), |s| each(s, reference_take), |s| each(s, c_take)];
+    let clear_of = &format!("take a clear of {CARDS}");
     vec![
         item("open", full, open),
         item(&format!("read, {CARDS} holders"), full, read),
@@ -112,10 +116,26 @@ pub fn calls() -> Vec<Item> {
         read_and_clear(&format!("{CARDS} entries"), full),
         read_and_clear("no entry", empty),
         item("take an increment", increments, take),
-        item(&format!("take a clear of {CARDS}"), clears, take),
+        item("take an increment, start", starts, take),
+        item("take an increment, the row empties", last_increments, take),
+        item(clear_of, clears, take),
+        item(&format!("{clear_of}, the row empties"), last_clears, take),
+        item("take a clear of none", empty_clears, take),
         item("take, repeated (8)", repeated, take),
         item(&format!("waiting, the {CALLS}th"), increments, &[library_waiting, reference_waiting]),
     ]
+}
+
+/// Which counters are active, and the reads that say the same: there a call is all of them.
+pub fn polls() -> [Item; 2] {
+    let asked: &[Work] =
+        &[|s| each(s, library_active), |s| each(s, reference_active), |s| each(s, c_active)];
+    let reads = item(
+        &format!("reading {COUNTERS} counters"),
+        few_active,
+        &[library_read_all, reference_read_all, c_read_all],
+    );
+    [item("active counters", few_active, asked), Item { calls: 1, ..reads }]
 }
 
 /// A message alone, from and to bytes.
@@ -292,7 +312,9 @@ fn blank() -> State {
         answers: Vec::new(),
         cards: CARDS,
         most: 0,
+        intended: OK,
         numbers: 0,
+        active: 0,
     }
 }
 
@@ -315,12 +337,32 @@ fn full() -> State {
         let at = entry_at(CARDS, place / CARDS, place % CARDS);
         state.kept[at].copy_from_slice(&[p, p - 5, c]);
     }
-    state.put_back();
+    mark(&mut state);
     state
 }
 
-fn with_messages(body: fn(u64) -> Body) -> State {
-    let mut state = full();
+/// One counter in sixteen has entries, those of two cards.
+fn few_active() -> State {
+    let mut state = empty();
+    for counter in (0..COUNTERS).step_by(16) {
+        for card in [counter % CARDS, counter % CARDS + 1] {
+            state.kept[entry_at(CARDS, counter, card)].copy_from_slice(&[100, 95, 400]);
+        }
+    }
+    mark(&mut state);
+    state
+}
+
+/// The counters' bits, by their rows: without them their calls are refused.
+fn mark(state: &mut State) {
+    for counter in 0..COUNTERS {
+        replica::mark(&mut state.kept, counter);
+    }
+    state.put_back();
+}
+
+/// The state with a message for each counter.
+fn with_messages(mut state: State, body: fn(u64) -> Body) -> State {
     for counter in 0..COUNTERS {
         let sequence = 1_001 + counter as u64;
         let message = Message {
@@ -348,21 +390,67 @@ fn with_messages(body: fn(u64) -> Body) -> State {
 }
 
 fn increments() -> State {
-    with_messages(|counter| Body::Increment { p: 200 + counter, start: false, amount: AMOUNT })
+    with_messages(full(), |counter| Body::Increment {
+        p: 200 + counter,
+        start: false,
+        amount: AMOUNT,
+    })
 }
 
-fn clears() -> State {
-    with_messages(|counter| {
-        let mut entries = Entries::new();
-        for card in 0..CARDS as u32 {
-            entries.push(Entry { card, p: 99 + counter % 5, c: 399 });
-        }
-        Body::Clear(entries)
+/// C of the sender when it has counted on all counters up to this one.
+const fn counted_to(counter: u64) -> u64 {
+    500 + (counter + 1) * AMOUNT as u64
+}
+
+fn starts() -> State {
+    with_messages(empty(), |counter| Body::Increment {
+        p: counted_to(counter),
+        start: true,
+        amount: AMOUNT,
     })
+}
+
+/// The only entry of each row is of a clear that has overtaken the count.
+fn last_increments() -> State {
+    let mut state = empty();
+    for counter in 0..COUNTERS {
+        let entry = [counted_to(counter as u64); 3];
+        state.kept[entry_at(CARDS, counter, 1)].copy_from_slice(&entry);
+    }
+    mark(&mut state);
+    with_messages(state, |counter| Body::Increment {
+        p: counted_to(counter),
+        start: false,
+        amount: AMOUNT,
+    })
+}
+
+/// Some entries go.
+fn clears() -> State {
+    with_messages(full(), |counter| clear_to(99 + counter % 5))
+}
+
+/// All entries go.
+fn last_clears() -> State {
+    with_messages(full(), |_| clear_to(399))
+}
+
+fn empty_clears() -> State {
+    with_messages(full(), |_| Body::Clear(Entries::new()))
+}
+
+/// A clear with an entry for each card.
+fn clear_to(p: u64) -> Body {
+    let mut entries = Entries::new();
+    for card in 0..CARDS as u32 {
+        entries.push(Entry { card, p, c: 399 });
+    }
+    Body::Clear(entries)
 }
 
 fn repeated() -> State {
     let mut state = increments();
+    state.intended = REPEATED;
     state.kept[messages_at(CARDS, 1)] = 5_000;
     state.put_back();
     state
@@ -570,6 +658,61 @@ fn c_read(s: &mut State, counter: usize) {
     s.numbers += black_box(peer::read(&s.words, counter as u64)).number;
 }
 
+fn library_active(s: &mut State, _: usize) {
+    let answer = black_box(library::active_counters(&s.words));
+    s.numbers += answer.number;
+    s.active = answer.counters;
+}
+
+#[inline(never)]
+fn reference_active(s: &mut State, _: usize) {
+    let answer = black_box(replica::active(&s.words));
+    s.numbers += number(answer);
+    s.active = answer.unwrap_or(0);
+}
+
+fn c_active(s: &mut State, _: usize) {
+    let answer = black_box(peer::active_counters(&s.words));
+    s.numbers += answer.number;
+    s.active = answer.counters;
+}
+
+/// The counters that have holders: one loop for all sides. A read gives the number answered and the
+/// holders.
+#[inline(never)]
+fn read_all(s: &mut State, read: fn(&[u64], u64) -> (u64, u64)) {
+    s.active = 0;
+    for counter in 0..COUNTERS as u64 {
+        let (number, holders) = read(&s.words, counter);
+        s.numbers += number;
+        s.active |= u64::from(holders != 0) << counter;
+    }
+}
+
+fn library_read_all(s: &mut State) {
+    read_all(s, |words, counter| {
+        let reading = library::read(words, counter);
+        (reading.number, reading.holders)
+    });
+}
+
+#[inline(never)]
+fn reference_read_one(words: &[u64], counter: u64) -> (u64, u64) {
+    let reading = replica::read(words, counter);
+    (number(reading), reading.map_or(0, |reading| reading.holders))
+}
+
+fn reference_read_all(s: &mut State) {
+    read_all(s, reference_read_one);
+}
+
+fn c_read_all(s: &mut State) {
+    read_all(s, |words, counter| {
+        let reading = peer::read(words, counter);
+        (reading.number, reading.holders)
+    });
+}
+
 fn library_count(s: &mut State, counter: usize) {
     let (counter, amount) = (counter as u64, AMOUNT.into());
     s.numbers += black_box(library::count(&mut s.words, counter, amount, &mut s.out)).number;
@@ -737,25 +880,27 @@ fn rpcgen_write(s: &mut State, counter: usize) {
 fn library_run(s: &mut State) {
     let (r, k, l) = (s.cards as u64, COUNTERS as u64, LOG_BYTES as u64);
     let lent = Buffers { words: &mut s.words, logs: &mut s.logs, answers: &mut s.answers };
-    black_box(library::run(r, k, l, &s.steps[s.part.clone()], lent));
+    s.numbers += black_box(library::run(r, k, l, &s.steps[s.part.clone()], lent));
 }
 
 #[inline(never)]
 fn reference_run(s: &mut State) {
     let (r, k, l) = (s.cards as u64, COUNTERS as u64, LOG_BYTES as u64);
     let lent = Buffers { words: &mut s.words, logs: &mut s.logs, answers: &mut s.answers };
-    let _ = black_box(chassis::run(r, k, l, &s.steps[s.part.clone()], lent));
+    s.numbers += number(black_box(chassis::run(r, k, l, &s.steps[s.part.clone()], lent)));
 }
 
 fn library_deliver(s: &mut State) {
     let (r, k, l) = (s.cards as u64, COUNTERS as u64, LOG_BYTES as u64);
-    black_box(library::deliver_pending(r, k, l, s.most, &mut s.words, &s.logs));
+    let made = black_box(library::deliver_pending(r, k, l, s.most, &mut s.words, &s.logs));
+    s.numbers += made.number;
 }
 
 #[inline(never)]
 fn reference_deliver(s: &mut State) {
     let (r, k, l) = (s.cards as u64, COUNTERS as u64, LOG_BYTES as u64);
-    let _ = black_box(chassis::deliver_pending(r, k, l, s.most, &mut s.words, &s.logs));
+    let made = black_box(chassis::deliver_pending(r, k, l, s.most, &mut s.words, &s.logs));
+    s.numbers += number(made);
 }
 
 fn library_deliver_one_by_one(s: &mut State) {
@@ -810,13 +955,15 @@ pub fn conversions_agree(item: &Item) -> bool {
 }
 
 /// What every side of an item leaves behind, for a check that all did the same work.
-pub fn outcome(state: &State) -> (&[u64], &[u8], &[u8], &[u64], u64) {
-    (&state.words, &state.out, &state.logs, &state.answers, state.numbers)
+pub fn outcome(state: &State) -> impl PartialEq + '_ {
+    let State { words, out, logs, answers, numbers, active, .. } = state;
+    (words, out, logs, answers, numbers, active)
 }
 
-/// No call on one replica was refused.
-pub fn all_accepted(state: &State) -> bool {
-    state.numbers == OK
+/// So many calls have answered the number that they are to answer, and all steps were accepted.
+pub fn as_intended(state: &State, calls: u64) -> bool {
+    state.numbers == calls * state.intended
+        && state.answers.chunks(ANSWER_WORDS).all(|answer| answer[0] == OK)
 }
 
 /// The library and rpcgen write every message of the state as the reference's bytes, and read it

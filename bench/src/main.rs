@@ -32,6 +32,10 @@ fn everything() {
     for item in items::calls() {
         print(&item, &least(&item, 3_000));
     }
+    println!("\nThe active counters, and the reads that the call replaces, all together:");
+    for item in items::polls() {
+        print(&item, &least(&item, 3_000));
+    }
     println!();
     for item in items::messages() {
         print(&item, &least(&item, 3_000));
@@ -99,23 +103,20 @@ fn rounds_of_deliveries(item: &Item) -> u32 {
     (1_000_000 / item.calls).clamp(20, 100) as u32
 }
 
-/// All sides that change the state leave it the same, and all read and write the same messages.
+/// All sides leave the state the same, no call answers another number than it is to, and all read and
+/// write the same messages.
 fn check() {
     let deliveries = items::deliveries().into_iter().map(|(item, _)| item);
     let none = [items::none_waiting()];
     let replicas = items::calls().into_iter().chain(items::drops());
     for item in replicas.chain(items::runs()).chain(deliveries).chain(none) {
-        let mut states: Vec<State> = item.sides.iter().map(|_| (item.make)()).collect();
-        for (state, (_, work)) in states.iter_mut().zip(&item.sides) {
-            bench_work(state, *work);
-        }
-        let alike = states.windows(2).all(|p| items::outcome(&p[0]) == items::outcome(&p[1]));
-        assert!(alike, "{}: the sides differ", item.name);
+        check_alike(&[item]);
     }
+    check_alike(&items::polls());
     for item in items::drops() {
         let mut state = (item.make)();
         item.sides.iter().for_each(|(_, work)| bench_work(&mut state, *work));
-        assert!(items::all_accepted(&state), "{}: a call is refused", item.name);
+        assert!(items::as_intended(&state, item.calls), "{}: a call is refused", item.name);
     }
     for item in items::messages() {
         assert!(items::messages_agree(&mut (item.make)()), "{}: the sides differ", item.name);
@@ -123,6 +124,21 @@ fn check() {
     for item in items::conversions() {
         assert!(items::conversions_agree(&item), "{}: the sides differ", item.name);
     }
+}
+
+/// Items of one outcome.
+fn check_alike(items: &[Item]) {
+    let mut states = Vec::new();
+    for item in items {
+        for (_, work) in &item.sides {
+            let mut state = (item.make)();
+            bench_work(&mut state, *work);
+            assert!(items::as_intended(&state, item.calls), "{}: other numbers", item.name);
+            states.push(state);
+        }
+    }
+    let alike = states.windows(2).all(|p| items::outcome(&p[0]) == items::outcome(&p[1]));
+    assert!(alike, "{}: the sides differ", items[0].name);
 }
 
 /// The least time of a batch, for each side; the sides take turns, and so does the first place.
@@ -172,6 +188,7 @@ extern "Rust" fn bench_work(state: &mut State, work: Work) {
 
 fn all() -> Vec<Item> {
     let mut all = items::calls();
+    all.extend(items::polls());
     all.extend(items::messages());
     all.extend(items::conversions());
     all.extend(items::drops());

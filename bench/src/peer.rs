@@ -1,9 +1,9 @@
 //! The calls by hand in C, peer/peer.c, behind safe functions; their answers are the library's.
 
-use yelansub_reference::library::{Cleared, Reading, Sent, Taken};
+use yelansub_reference::library::{Active, Cleared, Reading, Sent, Taken};
 
 mod raw {
-    use super::{Cleared, Reading, Sent, Taken};
+    use super::{Active, Cleared, Reading, Sent, Taken};
 
     extern "C" {
         pub fn peer_open(
@@ -14,6 +14,7 @@ mod raw {
             own: u64,
         ) -> u64;
         pub fn peer_read(words: *const u64, words_len: usize, counter: u64) -> Reading;
+        pub fn peer_active_counters(words: *const u64, words_len: usize) -> Active;
         pub fn peer_count(
             words: *mut u64,
             words_len: usize,
@@ -54,6 +55,10 @@ pub fn open(words: &mut [u64], cards: u64, counters: u64, own: u64) -> u64 {
 
 pub fn read(words: &[u64], counter: u64) -> Reading {
     unsafe { raw::peer_read(words.as_ptr(), words.len(), counter) }
+}
+
+pub fn active_counters(words: &[u64]) -> Active {
+    unsafe { raw::peer_active_counters(words.as_ptr(), words.len()) }
 }
 
 pub fn count(words: &mut [u64], counter: u64, amount: u64, out: &mut [u8]) -> Sent {

@@ -257,7 +257,10 @@ pub fn deliver_pending(
 ) -> Result<u64, u64> {
     let each = words_each(r, k, log_bytes, words.len(), logs.len())?;
     let log_of = |card: usize| &logs[card * log_bytes as usize..][..log_bytes as usize];
-    if !words.chunks_exact(each).zip(0..).all(|(words, card)| words.starts_with(&[r, k, card])) {
+    let in_place = |(words, card): (&[u64], u64)| {
+        words.starts_with(&[r, k, card]) && replica::active(words).is_ok()
+    };
+    if !words.chunks_exact(each).zip(0..).all(in_place) {
         return Err(BAD_REPLICA);
     }
     words.chunks_exact(each).try_for_each(replica::check_rows)?;

@@ -29,6 +29,13 @@ impl Reading {
 
 #[repr(C)]
 #[derive(Clone, Copy, Debug, Default, PartialEq, Eq)]
+pub struct Active {
+    pub number: u64,
+    pub counters: u64,
+}
+
+#[repr(C)]
+#[derive(Clone, Copy, Debug, Default, PartialEq, Eq)]
 pub struct Sent {
     pub number: u64,
     pub sequence: u64,
@@ -111,6 +118,7 @@ macro_rules! laid_out {
 
 // The structs of include/yelansub.h on x86-64, System V; tests/layout.c holds C to these numbers.
 laid_out!(Reading, 32, 8, { number: 0, value: 8, holders: 16, holder_count: 24 });
+laid_out!(Active, 16, 8, { number: 0, counters: 8 });
 laid_out!(Sent, 24, 8, { number: 0, sequence: 8, length: 16 });
 laid_out!(Cleared, 32, 8, { number: 0, value: 8, sequence: 16, length: 24 });
 laid_out!(Taken, 16, 8, { number: 0, sequence: 8 });
@@ -126,7 +134,7 @@ laid_out!(Step, 16, 4, { kind: 0, first: 4, second: 8, amount: 12 });
 laid_out!(Delivered, 16, 8, { number: 0, deliveries: 8 });
 
 mod raw {
-    use super::{Cleared, Delivered, Reading, Sent, Span, Step, Taken};
+    use super::{Active, Cleared, Delivered, Reading, Sent, Span, Step, Taken};
     use super::{Message, MessageReading, Written};
 
     extern "C" {
@@ -138,6 +146,7 @@ mod raw {
             own: u64,
         ) -> u64;
         pub fn yelansub_read(words: *const u64, words_len: usize, counter: u64) -> Reading;
+        pub fn yelansub_active_counters(words: *const u64, words_len: usize) -> Active;
         pub fn yelansub_count(
             words: *mut u64,
             words_len: usize,
@@ -246,6 +255,10 @@ pub fn open(words: &mut [u64], cards: u64, counters: u64, own: u64) -> u64 {
 
 pub fn read(words: &[u64], counter: u64) -> Reading {
     unsafe { raw::yelansub_read(lend(words), words.len(), counter) }
+}
+
+pub fn active_counters(words: &[u64]) -> Active {
+    unsafe { raw::yelansub_active_counters(lend(words), words.len()) }
 }
 
 pub fn count(words: &mut [u64], counter: u64, amount: u64, out: &mut [u8]) -> Sent {

@@ -15,8 +15,8 @@ pub const fn is_amount(amount: u64) -> bool {
 /// The largest sequence, and the most units that one card counts.
 pub const MAX: u64 = (1 << 48) - 1;
 
-/// Words of a replica before those of its cards: r, k and the own card.
-pub const HEAD_WORDS: usize = 3;
+/// Words of a replica before those of its cards: r, k, the own card and the active counters.
+pub const HEAD_WORDS: usize = 4;
 /// Words of an entry: p, n and c.
 pub const ENTRY_WORDS: usize = 3;
 
@@ -52,7 +52,7 @@ pub const STEP_READ_AND_CLEAR: u32 = 4;
 pub const STEP_KINDS: [u32; 4] = [STEP_COUNT, STEP_CLEAR, STEP_DELIVER, STEP_READ_AND_CLEAR];
 
 pub const OK: u64 = 0;
-/// Replica length, r, k or own card wrong.
+/// Replica length, r, k or own card wrong, or a one at bit k or above.
 pub const BAD_REPLICA: u64 = 1;
 /// The counter's row is not well-formed.
 pub const BAD_ROW: u64 = 2;

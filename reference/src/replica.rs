@@ -1,6 +1,6 @@
 //! SPECIFICATION 3 and 4: the replica, and count, clear, take, read, read-and-clear.
 //!
-//! The words: r, k, own card; C[j]; N[j]; then, counter by counter, (p, n, c) for each card.
+//! The words: r, k, own card; a bit for each active counter; C[j]; N[j]; then, counter by counter, (p, n, c) for each card.
 
 use core::ops::Range;
 
@@ -13,6 +13,8 @@ pub const CARDS_AT: usize = 0;
 pub const COUNTERS_AT: usize = 1;
 /// the own card,
 pub const OWN_AT: usize = 2;
+/// the active counters, a bit each,
+pub const ACTIVE_AT: usize = 3;
 
 /// C of a card,
 pub const fn increments_at(card: usize) -> usize {
@@ -110,7 +112,11 @@ impl Shape {
 
     fn of(words: &[u64]) -> Result<Shape, u64> {
         let head = words.first_chunk::<HEAD_WORDS>().ok_or(BAD_REPLICA)?;
-        Shape::new(words.len(), head[CARDS_AT], head[COUNTERS_AT], head[OWN_AT])
+        let shape = Shape::new(words.len(), head[CARDS_AT], head[COUNTERS_AT], head[OWN_AT])?;
+        if (shape.counters..u64::BITS as usize).any(|bit| head[ACTIVE_AT] >> bit & 1 == 1) {
+            return Err(BAD_REPLICA);
+        }
+        Ok(shape)
     }
 
     fn counter(self, counter: u64) -> Result<usize, u64> {
@@ -139,6 +145,7 @@ impl Place {
 /// One counter of a replica: C and N of every card, and the counter's row.
 struct Row<'a> {
     own: usize,
+    active: bool,
     increments: &'a [u64],
     messages: &'a [u64],
     cells: &'a [u64],
@@ -150,7 +157,8 @@ impl<'a> Row<'a> {
         let (increments, rest) = words[HEAD_WORDS..].split_at(r);
         let (messages, rows) = rest.split_at(r);
         let cells = &rows[ENTRY_WORDS * r * counter..][..ENTRY_WORDS * r];
-        Row { own: shape.own, increments, messages, cells }
+        let active = words[ACTIVE_AT] >> counter & 1 == 1;
+        Row { own: shape.own, active, increments, messages, cells }
     }
 
     fn cells(&self) -> impl Iterator<Item = Cell> + '_ {
@@ -174,9 +182,11 @@ impl<'a> Row<'a> {
         self.increments.iter().chain(self.messages).all(|number| *number <= MAX)
     }
 
-    /// Of the row's own entries.
+    /// Of the row's own entries, and its bit.
     fn entered(&self) -> bool {
-        self.cell(self.own).c <= self.increments[self.own] && self.cells().all(Cell::well_formed)
+        self.cell(self.own).c <= self.increments[self.own]
+            && self.cells().all(Cell::well_formed)
+            && self.active == self.cells().any(|cell| !cell.is_absent())
     }
 }
 
@@ -219,6 +229,18 @@ pub fn read(words: &[u64], counter: u64) -> Result<Reading, u64> {
         }
     }
     Ok(reading)
+}
+
+/// The active counters, a bit each; only refused with 1.
+pub fn active(words: &[u64]) -> Result<u64, u64> {
+    Shape::of(words).map(|_| words[ACTIVE_AT])
+}
+
+/// Sets a counter's bit by its row.
+pub fn mark(words: &mut [u64], counter: usize) {
+    let cards = words[CARDS_AT] as usize;
+    let held = (0..cards).any(|card| words[entry_at(cards, counter, card)] != [0; ENTRY_WORDS]);
+    words[ACTIVE_AT] = words[ACTIVE_AT] & !(1 << counter) | u64::from(held) << counter;
 }
 
 /// Counts `amount` on `counter`: the message to `out`, and applied; refused with 1, 3, 16, 2, 4, 5.
@@ -369,6 +391,7 @@ fn apply(words: &mut [u64], shape: Shape, message: &Message) {
         }
     }
     messages[sender] += 1;
+    mark(words, message.counter as usize);
 }
 
 fn update(cells: &mut [u64], card: usize, next: impl FnOnce(Cell) -> Cell) {

@@ -24,11 +24,14 @@ struct Card<'a> {
 impl<'a> Card<'a> {
     /// Refused with 1.
     fn of(words: &'a mut [u64]) -> Result<Card<'a>, u64> {
-        let [cards, counters, own, ..] = *words else { return Err(BAD_REPLICA) };
+        let [cards, counters, own, active, ..] = *words else { return Err(BAD_REPLICA) };
         let limits = (1..=MOST_CARDS as u64).contains(&cards)
             && (1..=MOST_COUNTERS as u64).contains(&counters)
             && own < cards;
         if !limits || words.len() != replica_words(cards as usize, counters as usize) {
+            return Err(BAD_REPLICA);
+        }
+        if counters < 64 && active >> counters != 0 {
             return Err(BAD_REPLICA);
         }
         let [cards, counters, own] = [cards, counters, own].map(|number| number as usize);
@@ -110,6 +113,8 @@ impl<'a> Card<'a> {
             }
         }
         self.words[messages_at(self.cards, sender)] += 1;
+        // A card of version 1 has no such word: it is compared with one worked out from the rows.
+        replica::mark(self.words, counter);
     }
 
     fn clear_entry(&mut self, counter: usize, entry: &Entry) {

@@ -54,6 +54,7 @@ fn card_of_three() -> Vec<u64> {
         words[messages_at(3, card)] = 10;
         words[entry_at(3, 0, card)].copy_from_slice(&[3, 1, 4]);
     }
+    replica::mark(&mut words, 0);
     words
 }
 

@@ -7,12 +7,12 @@ use yelansub_reference::chassis::{self, Answer, Buffers, Step};
 use yelansub_reference::differential::convert::{Converting, CONVERTING};
 use yelansub_reference::differential::convert::{TO_VERSION_1, TO_VERSION_2};
 use yelansub_reference::differential::generate::{Draft, AMOUNTS, STEP_AMOUNTS};
-use yelansub_reference::differential::{cleared, delivered, messages, number};
+use yelansub_reference::differential::{active, cleared, delivered, messages, number};
 use yelansub_reference::differential::{reading, taken, written};
 use yelansub_reference::differential::{Sending, CLEAR, COUNT, READ_AND_CLEAR, SENDING};
 use yelansub_reference::limits::*;
 use yelansub_reference::replica::{self, entry_at, increments_at, messages_at};
-use yelansub_reference::replica::{CARDS_AT, COUNTERS_AT, OWN_AT};
+use yelansub_reference::replica::{ACTIVE_AT, CARDS_AT, COUNTERS_AT, OWN_AT};
 use yelansub_reference::{library, message};
 
 const CARDS: u64 = MOST_CARDS as u64;
@@ -49,6 +49,13 @@ fn read(words: &[u64], counter: u64) -> library::Reading {
     let answer = library::read(words, counter);
     assert_eq!(answer, reading(replica::read(words, counter)));
     answer
+}
+
+/// The number and the word.
+fn active_counters(words: &[u64]) -> (u64, u64) {
+    let answer = library::active_counters(words);
+    assert_eq!(answer, active(replica::active(words)));
+    (answer.number, answer.counters)
 }
 
 /// With an output of `room` bytes; a count is by 1.
@@ -207,6 +214,7 @@ fn words_are_a_replica_within_the_limits_and_with_its_length() {
         let len = words.len();
         let due = if right { OK } else { BAD_REPLICA };
         assert_eq!(read(&words, 0).number, due, "{cards} {counters} {own}");
+        assert_eq!(active_counters(&words), (due, 0), "{cards} {counters} {own}");
         for call in &SENDING {
             assert_eq!(send(call, &mut words.clone(), 0, LONGEST_MESSAGE).number, due);
         }
@@ -214,8 +222,10 @@ fn words_are_a_replica_within_the_limits_and_with_its_length() {
         assert_eq!(take(&mut words, &[]), due);
         words.push(0);
         assert_eq!(read(&words, 0).number, BAD_REPLICA);
+        assert_eq!(active_counters(&words), (BAD_REPLICA, 0));
         words.truncate(len - 1);
         assert_eq!(read(&words, 0).number, BAD_REPLICA);
+        assert_eq!(active_counters(&words), (BAD_REPLICA, 0));
     }
 }
 
@@ -243,6 +253,7 @@ fn replica_of_three() -> Vec<u64> {
             words[entry_at(3, counter, card)].copy_from_slice(&[3, 1, 4]);
         }
     }
+    words[ACTIVE_AT] = 0b11;
     words
 }
 
@@ -281,7 +292,7 @@ fn counters_below_k() {
 }
 
 /// Every call on counter 0 after the changes finds its row well-formed, or none does. Counter 1's
-/// row has kept its entries: it is as well-formed as C and N are.
+/// row has kept its entries and its bit: it is as well-formed as C and N are.
 fn row(changes: &[(usize, u64)], well_formed: bool) {
     let mut words = replica_of_three();
     for (at, word) in changes {
@@ -296,9 +307,10 @@ fn row(changes: &[(usize, u64)], well_formed: bool) {
     }
     let number = take(&mut words.clone(), &next_of_card_0().bytes());
     assert_eq!(number == BAD_ROW, !well_formed, "{changes:?}: {number}");
-    let of_entries = changes.iter().filter(|(at, _)| *at >= entry_at(3, 0, 0).start).count();
-    let due = if of_entries == 0 { due } else { OK };
+    let of_all = |at: usize| (increments_at(0)..entry_at(3, 0, 0).start).contains(&at);
+    let due = if changes.iter().all(|(at, _)| of_all(*at)) { due } else { OK };
     assert_eq!(read(&words, 1).number, due, "{changes:?}");
+    assert_eq!(active_counters(&words), (OK, words[ACTIVE_AT]), "{changes:?}");
 }
 
 #[test]
@@ -342,6 +354,19 @@ fn well_formed_rows() {
         row(&[(p, MAX), (n, MAX), (c, MAX), (increments, MAX)], true);
         row(&[(c, MAX + 1), (increments, MAX)], false);
     }
+    // The bit of counter 0, and the entries of all cards.
+    let none: Vec<(usize, u64)> =
+        (entry_at(3, 0, 0).start..entry_at(3, 1, 0).start).map(|at| (at, 0)).collect();
+    row(&[(ACTIVE_AT, 0b11)], true);
+    row(&[(ACTIVE_AT, 0b10)], false);
+    row(&none, false);
+    row(&[&none[..], &[(ACTIVE_AT, 0b10)]].concat(), true);
+    for card in 0..3 {
+        let at = entry_at(3, 0, card).start;
+        let one = [&none[..], &[(at, 1), (at + 1, 1), (at + 2, 1)]].concat();
+        row(&one, true);
+        row(&[&one[..], &[(ACTIVE_AT, 0b10)]].concat(), false);
+    }
 }
 
 #[test]
@@ -367,6 +392,38 @@ fn causes<const MANY: usize>(numbers: [u64; MANY]) -> impl Iterator<Item = ([boo
     })
 }
 
+/// Bits of a word of `replica_of_three` that are turned.
+type Turn = (usize, u64);
+
+/// What makes it no replica, and what makes counter 0's row not well-formed, in every pair: an own
+/// card of 3, or a one at bit k; a p of 5, or counter 0's bit gone.
+fn heads_and_rows() -> Vec<(Turn, Turn)> {
+    let rows = [(entry_at(3, 0, 0).start, 3 ^ 5), (ACTIVE_AT, 0b001)];
+    let heads = [(OWN_AT, 1 ^ 3), (ACTIVE_AT, 0b100)];
+    heads.into_iter().flat_map(|head| rows.map(|row| (head, row))).collect()
+}
+
+fn turned(turns: [(Turn, bool); 2]) -> Vec<u64> {
+    let mut words = replica_of_three();
+    for ((at, bits), _) in turns.into_iter().filter(|(_, has)| *has) {
+        words[at] ^= bits;
+    }
+    words
+}
+
+#[test]
+fn refusals_of_a_read_in_their_order() {
+    for (has, due) in causes([BAD_REPLICA, BAD_COUNTER, BAD_ROW]) {
+        for (head, row) in heads_and_rows() {
+            let words = turned([(head, has[0]), (row, has[2])]);
+            assert_eq!(read(&words, if has[1] { 2 } else { 0 }).number, due, "{has:?}");
+            // No row is looked at.
+            let active = if has[0] { (BAD_REPLICA, 0) } else { (OK, words[ACTIVE_AT]) };
+            assert_eq!(active_counters(&words), active, "{has:?}");
+        }
+    }
+}
+
 /// Each cause alone and every order: the first of a set of causes is answered.
 #[test]
 fn refusals_of_a_count_in_their_order() {
@@ -375,17 +432,16 @@ fn refusals_of_a_count_in_their_order() {
     for (has, due) in causes(order) {
         for (amount, by_units) in wrong.clone().flat_map(|amount| [(amount, false), (amount, true)])
         {
-            let mut words = replica_of_three();
-            let (head, p) = (OWN_AT, entry_at(3, 0, 0).start);
-            let last = if by_units { increments_at(1) } else { messages_at(3, 1) };
-            for (at, to, has) in [(head, 3, has[0]), (p, 5, has[3]), (last, MAX, has[4])] {
-                words[at] = if has { to } else { words[at] };
+            for (head, row) in heads_and_rows() {
+                let mut words = turned([(head, has[0]), (row, has[3])]);
+                let last = if by_units { increments_at(1) } else { messages_at(3, 1) };
+                words[last] = if has[4] { MAX } else { words[last] };
+                let counter = if has[1] { 2 } else { 0 };
+                let amount = if has[2] { amount } else { 1 };
+                let room = if has[5] { INCREMENT_BYTES - 1 } else { INCREMENT_BYTES };
+                let answer = send_by(&COUNT, &mut words, counter, amount, room);
+                assert_eq!(answer.number, due, "{has:?}, {amount}");
             }
-            let counter = if has[1] { 2 } else { 0 };
-            let amount = if has[2] { amount } else { 1 };
-            let room = if has[5] { INCREMENT_BYTES - 1 } else { INCREMENT_BYTES };
-            let answer = send_by(&COUNT, &mut words, counter, amount, room);
-            assert_eq!(answer.number, due, "{has:?}, {amount}");
         }
     }
 }
@@ -394,15 +450,15 @@ fn refusals_of_a_count_in_their_order() {
 fn refusals_of_a_clear_in_their_order() {
     let order = [BAD_REPLICA, BAD_COUNTER, BAD_ROW, EXHAUSTED, SHORT_OUTPUT];
     for (has, due) in causes(order) {
-        for call in [CLEAR, READ_AND_CLEAR] {
-            let mut words = replica_of_three();
-            let (p, messages) = (entry_at(3, 0, 0).start, messages_at(3, 1));
-            for (at, to, has) in [(OWN_AT, 3, has[0]), (p, 5, has[2]), (messages, MAX, has[3])] {
-                words[at] = if has { to } else { words[at] };
-            }
+        for (call, (head, row)) in [CLEAR, READ_AND_CLEAR]
+            .iter()
+            .flat_map(|call| heads_and_rows().into_iter().map(move |wrong| (call, wrong)))
+        {
+            let mut words = turned([(head, has[0]), (row, has[2])]);
+            words[messages_at(3, 1)] = if has[3] { MAX } else { 10 };
             let counter = if has[1] { 2 } else { 0 };
             let room = if has[4] { clear_bytes(3) - 1 } else { clear_bytes(3) };
-            assert_eq!(send(&call, &mut words, counter, room).number, due, "{has:?}");
+            assert_eq!(send(call, &mut words, counter, room).number, due, "{has:?}");
         }
     }
 }
@@ -413,18 +469,18 @@ fn refusals_of_a_take_in_their_order() {
     for (sequence, number) in [(10, REPEATED), (12, EARLY)] {
         let order = [BAD_REPLICA, UNREADABLE, BAD_COUNTER, BAD_ROW, BAD_CARD, number, IMPLAUSIBLE];
         for (has, due) in causes(order) {
-            let mut words = replica_of_three();
-            words[OWN_AT] = if has[0] { 3 } else { 1 };
-            words[entry_at(3, 0, 2).start] = if has[3] { 5 } else { 3 };
-            let draft = Draft {
-                version: if has[1] { MESSAGE_VERSION_1 } else { MESSAGE_VERSION },
-                counter: if has[2] { 2 } else { 0 },
-                sender: u32::from(has[4]),
-                sequence: if has[5] { sequence } else { 11 },
-                p: if has[6] { 9 } else { 4 },
-                ..next_of_card_0()
-            };
-            assert_eq!(take(&mut words, &draft.bytes()), due, "{has:?}");
+            for (head, row) in heads_and_rows() {
+                let mut words = turned([(head, has[0]), (row, has[3])]);
+                let draft = Draft {
+                    version: if has[1] { MESSAGE_VERSION_1 } else { MESSAGE_VERSION },
+                    counter: if has[2] { 2 } else { 0 },
+                    sender: u32::from(has[4]),
+                    sequence: if has[5] { sequence } else { 11 },
+                    p: if has[6] { 9 } else { 4 },
+                    ..next_of_card_0()
+                };
+                assert_eq!(take(&mut words, &draft.bytes()), due, "{has:?}");
+            }
         }
     }
 }
@@ -491,6 +547,7 @@ fn all_counted(own: u64) -> Vec<u64> {
         (words[increments_at(card)], words[messages_at(MOST_CARDS, card)]) = (most, most);
         words[entry_at(MOST_CARDS, 0, card)].copy_from_slice(&[most, 0, most]);
     }
+    words[ACTIVE_AT] = 1;
     words
 }
 
@@ -735,6 +792,7 @@ fn entries_of_a_clear() {
             (words[increments_at(card)], words[messages_at(MOST_CARDS, card)]) = (1, 1);
             words[entry_at(MOST_CARDS, counter as usize, card)].copy_from_slice(&[1, 0, 1]);
         }
+        words[ACTIVE_AT] = u64::from(entries > 0) << counter;
         let read = read(words, counter);
         assert_eq!((read.value, read.holder_count), (entries as u64, entries as u64));
         assert_eq!(read.holders, (1 << entries) - 1);
@@ -1076,6 +1134,11 @@ fn replicas_of_these_sizes_in_their_place() {
     }
     let each = replica_words(3, 2);
     assert_eq!(lent.number_with(|lent| lent.words.rotate_left(each)), BAD_REPLICA);
+    // Both counters are active on every card; there is none at bit 2 or above.
+    for (card, bit) in (0..3).flat_map(|card| (2..64).map(move |bit| (card, bit))) {
+        let number = lent.number_with(|lent| lent.replica(card)[ACTIVE_AT] = 0b11 | 1 << bit);
+        assert_eq!(number, BAD_REPLICA, "card {card}, bit {bit}");
+    }
 }
 
 #[test]
@@ -1097,6 +1160,20 @@ fn every_row_of_every_replica() {
                 lent.number_with(|lent| lent.replica(card)[entry].copy_from_slice(&[9, 0, 9]));
             assert_eq!(number, due, "c above C, of card {of} on card {card}");
         }
+    }
+    // A bit without an entry, and an entry without its bit, on every card and counter.
+    for (card, counter) in (0..6).map(|place| (place / 2, place % 2)) {
+        let bit_gone = |lent: &mut Lent| lent.replica(card)[ACTIVE_AT] = 0b11 ^ 1 << counter;
+        let row_gone = |lent: &mut Lent| {
+            lent.replica(card)[entry_at(3, counter, 0).start..][..9].fill(0);
+        };
+        let both_gone = |lent: &mut Lent| {
+            bit_gone(lent);
+            row_gone(lent);
+        };
+        assert_eq!(lent.number_with(bit_gone), BAD_ROW, "card {card}, counter {counter}");
+        assert_eq!(lent.number_with(row_gone), BAD_ROW, "card {card}, counter {counter}");
+        assert_eq!(lent.number_with(both_gone), OK, "card {card}, counter {counter}");
     }
 }
 
@@ -1174,26 +1251,32 @@ fn logs_that_begin_with_what_was_made() {
 /// Each fault on another card. Without the first of them, the next is answered.
 #[test]
 fn refusals_of_deliveries_in_their_order() {
-    for cards in [[0, 1, 2], [0, 2, 1], [1, 0, 2], [1, 2, 0], [2, 0, 1], [2, 1, 0]] {
-        let [head, row, log] = cards;
+    let orders = [[0, 1, 2], [0, 2, 1], [1, 0, 2], [1, 2, 0], [2, 0, 1], [2, 1, 0]];
+    // The own card, or a one at bit k; n above p, or the bit of counter 1.
+    let n = entry_at(3, 1, 2).start + 1;
+    let pairs = [(OWN_AT, n), (OWN_AT, ACTIVE_AT), (ACTIVE_AT, n), (ACTIVE_AT, ACTIVE_AT)];
+    for ([head, row, log], (in_head, in_row)) in
+        orders.into_iter().flat_map(|cards| pairs.map(|pair| (cards, pair)))
+    {
         let mut lent = two_of_each();
-        let n = entry_at(3, 1, 2).start + 1;
-        let right = lent.replica(row)[n];
         let refused = |lent: &mut Lent, number: u64| {
             for most in [0, 1, u64::MAX] {
-                assert_eq!(lent.deliver_pending(most), (number, 0), "{cards:?}");
+                let place = ([head, row, log], in_head, in_row);
+                assert_eq!(lent.deliver_pending(most), (number, 0), "{place:?}");
             }
         };
+        let head_bits = if in_head == OWN_AT { head as u64 ^ 3 } else { 0b100 };
+        let row_bits = if in_row == ACTIVE_AT { 0b010 } else { lent.replica(row)[n] ^ 9 };
         lent.words.push(0);
-        lent.replica(head)[OWN_AT] = 3;
-        lent.replica(row)[n] = 9;
+        lent.replica(head)[in_head] ^= head_bits;
+        lent.replica(row)[in_row] ^= row_bits;
         lent.log(log)[0] = 9;
         refused(&mut lent, BAD_SIZES);
         lent.words.pop();
         refused(&mut lent, BAD_REPLICA);
-        lent.replica(head)[OWN_AT] = head as u64;
+        lent.replica(head)[in_head] ^= head_bits;
         refused(&mut lent, BAD_ROW);
-        lent.replica(row)[n] = right;
+        lent.replica(row)[in_row] ^= row_bits;
         refused(&mut lent, BAD_LOG);
         lent.log(log)[0] = 0;
         assert_eq!(lent.words, two_of_each().words);
@@ -1538,4 +1621,405 @@ fn a_clear_has_12_entries_at_the_most() {
         reads_in_both_versions(&draft, reads);
     }
     assert_eq!(LONGEST_MESSAGE, 268);
+}
+
+// ---- the active counters, in the specification's own numbers: the fourth word, bit q for counter q
+
+/// Card 0 of two, fresh, with this word.
+fn card_0_of_two(counters: u64, active: u64) -> Vec<u64> {
+    let mut words = vec![0; 4 + 2 * 2 + 3 * 2 * counters as usize];
+    (words[0], words[1], words[3]) = (2, counters, active);
+    words
+}
+
+/// The first words of card 0 with these entries of a counter's row, each of one of the two cards.
+fn with_entries(mut words: Vec<u64>, counter: u64, entries: &[(usize, [u64; 3])]) -> Vec<u64> {
+    for (card, entry) in entries {
+        words[8 + 6 * counter as usize + 3 * card..][..3].copy_from_slice(entry);
+    }
+    words
+}
+
+/// Card 1's first message of two: an increment by 1, or a clear.
+fn first_of_card_1(counter: u64, kind: u32) -> Draft {
+    let (sender, sequence, counter) = (1, 1, counter as u32);
+    Draft { kind, sender, sequence, counter, p: 1, start: 1, ..next_of_card_0() }
+}
+
+/// The number and the fourth word that each call leaves which looks at a counter's row of such a
+/// card 0: read, count, clear, read and clear, and card 1's first increment taken, and its first
+/// clear, which is empty.
+fn each_call(words: &[u64], counter: u64) -> [(u64, u64); 6] {
+    let sent = |call: &Sending| {
+        let mut words = words.to_vec();
+        (send(call, &mut words, counter, 268).number, words[3])
+    };
+    let took = |kind: u32| {
+        let mut words = words.to_vec();
+        (take(&mut words, &first_of_card_1(counter, kind).bytes()), words[3])
+    };
+    let [count, clear, read_and_clear] = [COUNT, CLEAR, READ_AND_CLEAR].map(|call| sent(&call));
+    let [increment, empty] = [1, 2].map(took);
+    [(read(words, counter).number, words[3]), count, clear, read_and_clear, increment, empty]
+}
+
+/// What delivering what waits answers to two cards without a message, this one in its place.
+fn among_two(words: &[u64]) -> u64 {
+    let counters = words[1];
+    let mut other = card_0_of_two(counters, 0);
+    other[2] = 1 - words[2];
+    let words = if words[2] == 0 { [words, &other] } else { [&other, words] }.concat();
+    let lent = Lent { cards: 2, counters, log_bytes: 0, words, logs: Vec::new() };
+    lent.number_with(|_| {})
+}
+
+#[test]
+fn lengths_of_a_replica_with_its_word_of_bits() {
+    for (cards, counters, len) in
+        [(1, 1, 9), (2, 1, 14), (3, 2, 28), (2, 63, 386), (1, 64, 198), (12, 1, 64), (12, 64, 2332)]
+    {
+        assert_eq!(replica_words(cards as usize, counters as usize), len);
+        for given in [0, 1, 2, 3, 4, 5, len - 1, len, len + 1] {
+            let due = if given == len { 0 } else { 1 };
+            assert_eq!(open(given, cards, counters, 0), due, "{cards} {counters} {given}");
+            let mut words = vec![0; given];
+            for (at, word) in [cards, counters, 0, 1].into_iter().enumerate().take(given) {
+                words[at] = word;
+            }
+            // The bit of counter 0, whose row has no entry: 2 where it is a replica.
+            let row = if given == len { 2 } else { 1 };
+            assert_eq!(active_counters(&words), (due, 1 - due), "{cards} {counters} {given}");
+            assert_eq!(read(&words, 0).number, row);
+            for call in &SENDING {
+                assert_eq!(send(call, &mut words.clone(), 0, 268).number, row);
+            }
+            let other = Draft { sender: 1, ..first_of_card_1(0, 1) };
+            assert_eq!(take(&mut words.clone(), &other.bytes()), row);
+        }
+    }
+    // r = k = 1, every length.
+    for len in 0..20 {
+        let mut words = vec![0; len];
+        words.iter_mut().take(2).for_each(|word| *word = 1);
+        assert_eq!(active_counters(&words), (if len == 9 { 0 } else { 1 }, 0), "{len}");
+        assert_eq!(open(len, 1, 1, 0), if len == 9 { 0 } else { 1 }, "{len}");
+    }
+    let all = (0..2).flat_map(|own| [2, 1, own, 0, 0, 0, 0, 0, 0, 0, 0, 0, 0, 0]).collect();
+    let lent = Lent { cards: 2, counters: 1, log_bytes: 0, words: all, logs: Vec::new() };
+    assert_eq!(lent.number_with(|lent| assert_eq!(lent.words.len(), 28)), 0);
+    // 3 + 2r + 3rk for each.
+    assert_eq!(lent.number_with(|lent| lent.words.truncate(26)), 11);
+    assert_eq!(lent.number_with(|lent| lent.words.truncate(27)), 11);
+    assert_eq!(lent.number_with(|lent| lent.words.push(0)), 11);
+}
+
+#[test]
+fn no_bit_at_k_or_above() {
+    for (k, below, high) in
+        [(1, 1, 1..64), (2, 3, 2..64), (63, u64::MAX >> 1, 63..64), (64, u64::MAX, 64..64)]
+    {
+        // Whatever stands below, the call answers the word; other calls ask for their counter's bit.
+        for word in [0, 1, 1 << (k - 1), below, below - 1, below ^ 1 << (k - 1)] {
+            let words = card_0_of_two(k, word);
+            assert_eq!(active_counters(&words), (0, word), "k {k}, {word:#x}");
+            for counter in [0, k - 1] {
+                let due = if word >> counter & 1 == 1 { 2 } else { 0 };
+                let numbers = each_call(&words, counter).map(|(number, _)| number);
+                assert_eq!(numbers, [due; 6], "k {k}, {word:#x}, counter {counter}");
+            }
+            assert_eq!(among_two(&words), if word == 0 { 0 } else { 2 }, "k {k}, {word:#x}");
+        }
+        for word in high.flat_map(|bit| [1u64 << bit, 1 << bit | 1, 1 << bit | below]) {
+            let words = card_0_of_two(k, word);
+            assert_eq!(active_counters(&words), (1, 0), "k {k}, {word:#x}");
+            // Also of a counter that there is not: 1 comes before 3.
+            for counter in [0, k - 1, k] {
+                let left = each_call(&words, counter);
+                assert_eq!(left, [(1, word); 6], "k {k}, {word:#x}, counter {counter}");
+            }
+            assert_eq!(among_two(&words), 1, "k {k}, {word:#x}");
+            let mut last = words.clone();
+            last[2] = 1;
+            assert_eq!(among_two(&last), 1, "k {k}, {word:#x}");
+        }
+    }
+    // All ones are the word of 64 counters, and of no fewer.
+    assert_eq!(active_counters(&card_0_of_two(64, u64::MAX)), (0, u64::MAX));
+    assert_eq!(active_counters(&card_0_of_two(63, u64::MAX)), (1, 0));
+    assert_eq!(active_counters(&card_0_of_two(63, u64::MAX >> 1)), (0, u64::MAX >> 1));
+}
+
+/// With a bit too many every call gives 1, whatever else is wrong: 3, 16, 6, 2, 5 come after it.
+#[test]
+fn a_high_bit_comes_before_all_else() {
+    let mut words = card_0_of_two(2, 0b100);
+    words[4..].fill(u64::MAX);
+    assert_eq!(active_counters(&words), (1, 0));
+    assert_eq!(read(&words, 2).number, 1);
+    for call in &SENDING {
+        for (counter, amount, room) in [(2, 0, 0), (0, 0, 0), (0, 1, 0), (0, 1, 268)] {
+            assert_eq!(send_by(call, &mut words, counter, amount, room).number, 1);
+        }
+    }
+    for bytes in [vec![], vec![0; 40], first_of_card_1(2, 1).bytes(), first_of_card_1(0, 2).bytes()]
+    {
+        assert_eq!(take(&mut words, &bytes), 1);
+    }
+    assert_eq!(among_two(&words), 1);
+    // Without it the next cause is answered.
+    words[3] = 0b11;
+    assert_eq!(active_counters(&words), (0, 0b11));
+    assert_eq!(read(&words, 2).number, 3);
+    assert_eq!(read(&words, 1).number, 2);
+    assert_eq!(send_by(&COUNT, &mut words, 0, 0, 0).number, 16);
+    assert_eq!(take(&mut words, &[]), 6);
+    assert_eq!(among_two(&words), 2);
+}
+
+/// One without an entry, and an entry without the one: 2 to every call that looks at that row, and
+/// to no other, which leave the bit as it is.
+#[test]
+fn a_bit_that_disagrees_with_its_row() {
+    for (k, q, others) in [
+        (1, 0, &[][..]),
+        (2, 0, &[1]),
+        (2, 1, &[0]),
+        (63, 0, &[1, 62]),
+        (63, 62, &[0, 61]),
+        (64, 0, &[1, 31, 32, 63]),
+        (64, 31, &[0, 30, 32, 63]),
+        (64, 32, &[0, 31, 33, 63]),
+        (64, 63, &[0, 1, 31, 32, 62]),
+    ] {
+        let bit = 1u64 << q;
+        let one = card_0_of_two(k, bit);
+        // The own C is 1 where the own entry has a c of 1.
+        let mut counted = card_0_of_two(k, 0);
+        (counted[4], counted[6]) = (1, 1);
+        let own = with_entries(counted, q, &[(0, [1, 0, 1])]);
+        let ahead = with_entries(card_0_of_two(k, 0), q, &[(1, [1, 1, 1])]);
+        let both = with_entries(own.clone(), q, &[(1, [2, 1, 2])]);
+        for words in [one, own, ahead, both] {
+            let wrong = words[3];
+            assert_eq!(active_counters(&words), (0, wrong), "k {k}, counter {q}");
+            assert_eq!(each_call(&words, q), [(2, wrong); 6], "k {k}, counter {q}");
+            assert_eq!(among_two(&words), 2, "k {k}, counter {q}");
+            for other in others {
+                // Read, count, clear twice, an increment and a clear taken.
+                let counted = wrong | 1 << other;
+                let left = [wrong, counted, wrong, wrong, counted, wrong].map(|word| (0, word));
+                assert_eq!(each_call(&words, *other), left, "k {k}, counter {q}, {other}");
+            }
+            // The right bit, and nothing else of the row, makes the calls on it accept.
+            let mut right = words.clone();
+            right[3] = wrong ^ bit;
+            assert_eq!(each_call(&right, q).map(|(number, _)| number), [0; 6]);
+            assert_eq!(among_two(&right), if right[6] == 1 { 15 } else { 0 });
+        }
+    }
+}
+
+/// No row is looked at, nor C, nor N.
+#[test]
+fn the_word_is_answered_where_rows_are_damaged() {
+    for (k, words) in [(2, [0, 1, 2, 3]), (64, [0, 1 << 63, u64::MAX - 1, u64::MAX])] {
+        for word in words {
+            let whole = card_0_of_two(k, word);
+            let [mut most, mut past, mut entries] = [whole.clone(), whole.clone(), whole];
+            most[4..].fill(u64::MAX);
+            past[4..8].fill(MAX + 1);
+            entries[8..].fill(1 << 63);
+            for words in [most, past, entries] {
+                assert_eq!(active_counters(&words), (0, word), "k {k}");
+                for counter in [0, 1, k - 1] {
+                    let left = each_call(&words, counter);
+                    assert_eq!(left, [(2, word); 6], "k {k}, {word:#x}, counter {counter}");
+                }
+                assert_eq!(among_two(&words), 2, "k {k}, {word:#x}");
+            }
+        }
+    }
+}
+
+#[test]
+fn open_writes_a_word_of_zero() {
+    for (r, k, own, len) in [(1, 1, 0, 9), (3, 2, 1, 28), (2, 63, 1, 386), (12, 64, 11, 2332)] {
+        let mut words = vec![u64::MAX; len];
+        assert_eq!(library::open(&mut words, r, k, own), 0);
+        assert_eq!(words[..4], [r, k, own, 0]);
+        assert!(words[4..].iter().all(|word| *word == 0));
+        assert_eq!(active_counters(&words), (0, 0));
+        // Refused, it leaves all ones.
+        let mut words = vec![u64::MAX; len];
+        assert_eq!(library::open(&mut words, r, k, r), 1);
+        assert_eq!(words, vec![u64::MAX; len]);
+    }
+}
+
+/// Two cards and two counters. Card 0 counts 5 of counter 1; card 1 takes that, counts 7 of counter
+/// 0 and clears counter 1. So every card has a bit that is zero, and one that is one.
+#[test]
+fn a_run_begins_fresh_whatever_the_words_held() {
+    let counted = [Step::count_by(0, 1, 5), Step::deliver(1, 0), Step::count_by(1, 0, 7)];
+    let steps = [&counted[..], &[Step::clear(1, 1)]].concat();
+    #[rustfmt::skip]
+    let due = [
+        2, 2, 0, 0b10, 5, 0, 1, 0, 0, 0, 0, 0, 0, 0, 5, 0, 5, 0, 0, 0,
+        2, 2, 1, 0b01, 5, 7, 1, 2, 0, 0, 0, 7, 0, 7, 0, 0, 0, 0, 0, 0,
+    ];
+    let bytes: Vec<u8> = steps.iter().flat_map(|step| step.to_bytes()).collect();
+    for held in [u64::MAX, 0, 1, 0b11] {
+        let on = |call: &dyn Fn(Buffers) -> u64| {
+            let (mut words, mut logs, mut answers) = ([held; 40], [9; 176], [9; 8]);
+            let lent = Buffers { words: &mut words, logs: &mut logs, answers: &mut answers };
+            (call(lent), words, answers)
+        };
+        for (number, words, answers) in [
+            on(&|lent| library::run(2, 2, 88, &bytes, lent)),
+            on(&|lent| library::run_records(2, 2, 88, &steps, lent)),
+            on(&|lent| number(chassis::run(2, 2, 88, &bytes, lent))),
+        ] {
+            assert_eq!((number, words, answers), (0, due, [0; 8]), "{held:#x}");
+        }
+        let (number, words, answers) = on(&|lent| library::run(2, 2, 89, &bytes, lent));
+        assert_eq!((number, words, answers), (11, [held; 40], [9; 8]), "{held:#x}");
+    }
+    assert_eq!(active_counters(&due[..20]), (0, 0b10));
+    assert_eq!(active_counters(&due[20..]), (0, 0b01));
+}
+
+/// The message that the call makes.
+fn made(call: &Sending, words: &mut [u64], counter: u64, amount: u64) -> Vec<u8> {
+    let mut out = vec![9; 268];
+    let answer = (call.theirs)(words, counter, amount, &mut out);
+    assert_eq!(answer.number, 0);
+    out.truncate(answer.length as usize);
+    out
+}
+
+/// The bit of a counter of three cards after each call, all other bits being 0, or all ones though
+/// no other row has an entry: they are not looked at and stay.
+#[test]
+fn the_bit_follows_its_row() {
+    for (k, q) in [(1, 0), (2, 0), (2, 1), (63, 0), (63, 62), (64, 0), (64, 33), (64, 63)] {
+        let (bit, all): (u64, u64) = (1 << q, u64::MAX >> (64 - k));
+        for others in [0, all & !bit] {
+            for clear in [CLEAR, READ_AND_CLEAR] {
+                let mut cards = [0, 1, 2].map(|own| {
+                    let mut words = words_of(3, k, own);
+                    words[3] = others;
+                    words
+                });
+                let [zero, one, two] = &mut cards;
+                let is = |words: &[u64], held: u64, reads: [u64; 2]| {
+                    assert_eq!(active_counters(words), (0, others | held), "k {k}, counter {q}");
+                    let read = read(words, q);
+                    assert_eq!((read.number, [read.value, read.holders]), (0, reads));
+                };
+                // A clear of nothing, made and taken: it says nothing.
+                let empty = made(&clear, zero, q, 0);
+                assert_eq!(empty.len(), 28);
+                is(zero, 0, [0, 0]);
+                for other in [&mut *one, &mut *two] {
+                    assert_eq!(take(other, &empty), 0);
+                    is(other, 0, [0, 0]);
+                }
+                // A count sets the bit, and another leaves it.
+                let first = made(&COUNT, zero, q, 3);
+                is(zero, bit, [3, 1]);
+                let second = made(&COUNT, zero, q, 4);
+                is(zero, bit, [7, 1]);
+                // An increment taken sets it. A clear of all that was received clears it.
+                assert_eq!(take(one, &first), 0);
+                is(one, bit, [3, 1]);
+                let cleared = made(&clear, one, q, 0);
+                assert_eq!(cleared.len(), 48);
+                is(one, 0, [0, 0]);
+                // A clear ahead of its increment sets it: value 0, and a holder.
+                assert_eq!(take(two, &cleared), 0);
+                is(two, bit, [0, 1]);
+                // A clear there leaves what is ahead.
+                let again = made(&clear, two, q, 0);
+                assert_eq!(again.len(), 48);
+                is(two, bit, [0, 1]);
+                // The increment then comes, and takes it away.
+                assert_eq!(take(two, &first), 0);
+                is(two, 0, [0, 0]);
+                // Taken where more was counted it leaves an entry.
+                assert_eq!(take(zero, &cleared), 0);
+                is(zero, bit, [4, 1]);
+                assert_eq!(take(zero, &again), 0);
+                is(zero, bit, [4, 1]);
+                // What was not cleared comes, and is cleared by its own card.
+                assert_eq!(take(one, &second), 0);
+                is(one, bit, [4, 1]);
+                let last = made(&clear, zero, q, 0);
+                is(zero, 0, [0, 0]);
+                assert_eq!(take(one, &last), 0);
+                is(one, 0, [0, 0]);
+                // Refused calls move nothing.
+                for words in [zero, one, two] {
+                    let before = words.clone();
+                    assert_eq!(send(&COUNT, words, q, 39).number, 5);
+                    assert_eq!(send_by(&COUNT, words, q, 65_536, 268).number, 16);
+                    assert_eq!(send(&clear, words, q, 27).number, 5);
+                    assert_eq!(send(&clear, words, k, 268).number, 3);
+                    assert_eq!(*words, before);
+                }
+            }
+        }
+    }
+}
+
+/// Three cards, two counters: the bits before and after deliveries, in rounds.
+#[test]
+fn bits_after_deliveries() {
+    // Card 0 counts on counter 0, card 1 takes that and clears, card 2 counts on counter 1.
+    let steps =
+        [Step::count_by(0, 0, 3), Step::deliver(1, 0), Step::clear(1, 0), Step::count_by(2, 1, 5)];
+    // After so many deliveries: to card 0 from 1 (the clear) and 2, to card 1 from 2, to card 2
+    // from 0 and 1.
+    let due = [
+        [0b01, 0b00, 0b10],
+        [0b00, 0b00, 0b10],
+        [0b10, 0b00, 0b10],
+        [0b10, 0b10, 0b10],
+        [0b10, 0b10, 0b11],
+        [0b10, 0b10, 0b10],
+    ];
+    for (most, due) in due.into_iter().enumerate() {
+        let mut lent = Lent {
+            cards: 3,
+            counters: 2,
+            log_bytes: 80,
+            words: vec![u64::MAX; 3 * 28],
+            logs: vec![0; 240],
+        };
+        let mut answers = [9; 8];
+        let (words, logs) = (&mut lent.words, &mut lent.logs);
+        let buffers = Buffers { words, logs, answers: &mut answers };
+        assert_eq!(library::run_records(3, 2, 80, &steps, buffers), 0);
+        assert_eq!(answers, [0; 8]);
+        assert_eq!(lent.deliver_pending(most as u64), (0, most as u64));
+        for (card, due) in due.into_iter().enumerate() {
+            assert_eq!(active_counters(lent.replica(card)), (0, due), "{most}, card {card}");
+        }
+    }
+}
+
+/// A message that is declined, or a link that is passed over, moves no bit.
+#[test]
+fn bits_after_a_link_is_passed_over() {
+    let mut lent = two_of_each();
+    lent.rewrite(0, 1, Draft { counter: 2, ..count_of(0, 1) });
+    for card in [1, 2] {
+        // Card 1 has neither counted nor taken anything of counter 0, nor has card 2.
+        lent.replica(card)[entry_at(3, 0, 0).start..][..9].fill(0);
+        lent.replica(card)[3] = 0b10;
+        lent.rewrite(card, 1, Draft { counter: 1, ..count_of(card, 1) });
+    }
+    assert_eq!(lent.deliver_pending(u64::MAX), (0, 8));
+    for (card, due) in [(0, 0b11), (1, 0b10), (2, 0b10)] {
+        assert_eq!(active_counters(lent.replica(card)), (0, due), "card {card}");
+    }
 }

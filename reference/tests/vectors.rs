@@ -86,6 +86,7 @@ impl Words {
     fn set(&mut self, counter: u32, card: u32, entry: [u64; ENTRY_WORDS]) {
         let at = entry_at(MOST_CARDS, counter as usize, card as usize);
         self.0[at].copy_from_slice(&entry);
+        replica::mark(&mut self.0, counter as usize);
     }
 }
 

@@ -10,17 +10,20 @@ enum { CARDS = 3, COUNTERS = 2, OWN = 1, WORDS = YELANSUB_REPLICA_WORDS(CARDS, C
 enum { RUN_CARDS = 2, RUN_COUNTERS = 3, RUN_LOG = 80, RUN_STEPS = 3 };
 enum { RUN_WORDS = YELANSUB_REPLICA_WORDS(RUN_CARDS, RUN_COUNTERS) };
 
-/* The replica of card 1: r k own, C, N, no entry of counter 0, two entries of counter 1. */
-static const uint64_t before[WORDS] = {3, 2, 1, 30, 20, 40, 7, 5, 9, 0, 0, 0, 0, 0, 0, 0, 0, 0,
+/* The replica of card 1: r k own, the bit of counter 1, C, N, no entry of counter 0, two entries of counter 1. */
+static const uint64_t before[WORDS] = {3, 2, 1, 2, 30, 20, 40, 7, 5, 9, 0, 0, 0, 0, 0, 0, 0, 0, 0,
                                        25, 11, 28, 0, 0, 0, 33, 33, 44};
 /* A count by 6 of counter 1: p = 20 + 6 with start. */
-static const uint64_t counted[WORDS] = {3, 2, 1, 30, 26, 40, 7, 6, 9, 0, 0, 0, 0, 0, 0, 0, 0, 0,
+static const uint64_t counted[WORDS] = {3, 2, 1, 2, 30, 26, 40, 7, 6, 9, 0, 0, 0, 0, 0, 0, 0, 0, 0,
                                         25, 11, 28, 26, 20, 26, 33, 33, 44};
-/* Its clear in place of that: card 0's entry goes, since 28 <= C; card 2's stays, since 44 > 40. */
-static const uint64_t cleared[WORDS] = {3, 2, 1, 30, 20, 40, 7, 6, 9, 0, 0, 0, 0, 0, 0, 0, 0, 0,
+/* A count by 6 of counter 0 in place of that: its bit is one. */
+static const uint64_t counted_0[WORDS] = {3, 2, 1, 3, 30, 26, 40, 7, 6, 9, 0, 0, 0, 26, 20, 26, 0, 0, 0,
+                                          25, 11, 28, 0, 0, 0, 33, 33, 44};
+/* A clear of counter 1: card 0's entry goes, since 28 <= C; card 2's stays, since 44 > 40, and so does the bit. */
+static const uint64_t cleared[WORDS] = {3, 2, 1, 2, 30, 20, 40, 7, 6, 9, 0, 0, 0, 0, 0, 0, 0, 0, 0,
                                         0, 0, 0, 0, 0, 0, 33, 33, 44};
 /* Card 2's increment by 3, p = 40 + 3 with start, in place of that. */
-static const uint64_t taken[WORDS] = {3, 2, 1, 30, 20, 43, 7, 5, 10, 0, 0, 0, 0, 0, 0, 0, 0, 0,
+static const uint64_t taken[WORDS] = {3, 2, 1, 2, 30, 20, 43, 7, 5, 10, 0, 0, 0, 0, 0, 0, 0, 0, 0,
                                       25, 11, 28, 0, 0, 0, 43, 40, 44};
 static const uint64_t fresh[WORDS] = {3, 2, 1};
 
@@ -35,14 +38,14 @@ static const uint32_t its_conversion[] = {2, 1, 7, 0x1234, 0x56789abc, 63, 5, 6,
 static const uint32_t steps[RUN_STEPS][4] = {{1, 1, 2, 5}, {3, 0, 1, 0}, {4, 0, 2, 0}};
 static const uint64_t answers_due[RUN_STEPS * YELANSUB_ANSWER_WORDS] = {0, 0, 0, 0, 0, 5};
 static const uint64_t run_due[RUN_CARDS * RUN_WORDS] = {
-    2, 3, 0, 0, 5, 1, 1, 0, 0, 0, 0, 0, 0, 0, 0, 0, 0, 0, 0, 0, 0, 0, 0, 0, 0,
-    2, 3, 1, 0, 5, 0, 1, 0, 0, 0, 0, 0, 0, 0, 0, 0, 0, 0, 0, 0, 0, 0, 5, 0, 5};
+    2, 3, 0, 0, 0, 5, 1, 1, 0, 0, 0, 0, 0, 0, 0, 0, 0, 0, 0, 0, 0, 0, 0, 0, 0, 0,
+    2, 3, 1, 4, 0, 5, 0, 1, 0, 0, 0, 0, 0, 0, 0, 0, 0, 0, 0, 0, 0, 0, 0, 5, 0, 5};
 static const uint32_t log_0[] = {2, 2, 0, 0, 1, 2, 1, 1, 0, 5, 0, 5};
 static const uint32_t log_1[] = {2, 1, 1, 0, 1, 2, 0, 5, 1, 5};
-/* Card 1 takes card 0's clear: its entry goes, since 5 <= C. */
+/* Card 1 takes card 0's clear: its entry goes, since 5 <= C, and counter 2's bit with it. */
 static const uint64_t pumped_due[RUN_CARDS * RUN_WORDS] = {
-    2, 3, 0, 0, 5, 1, 1, 0, 0, 0, 0, 0, 0, 0, 0, 0, 0, 0, 0, 0, 0, 0, 0, 0, 0,
-    2, 3, 1, 0, 5, 1, 1, 0, 0, 0, 0, 0, 0, 0, 0, 0, 0, 0, 0, 0, 0, 0, 0, 0, 0};
+    2, 3, 0, 0, 0, 5, 1, 1, 0, 0, 0, 0, 0, 0, 0, 0, 0, 0, 0, 0, 0, 0, 0, 0, 0, 0,
+    2, 3, 1, 0, 0, 5, 1, 1, 0, 0, 0, 0, 0, 0, 0, 0, 0, 0, 0, 0, 0, 0, 0, 0, 0, 0};
 
 static uint64_t words[WORDS], replicas[RUN_CARDS * RUN_WORDS], answers[RUN_STEPS * YELANSUB_ANSWER_WORDS];
 static uint8_t out[YELANSUB_LONGEST_MESSAGE + 4], bytes[YELANSUB_LONGEST_MESSAGE + 4], logs[RUN_CARDS * RUN_LOG];
@@ -135,6 +138,31 @@ static const char *wrong_read(void)
     a = yelansub_read(words, WORDS, 2);
     HOLD(a.number == YELANSUB_BAD_COUNTER && !a.value && !a.holders && !a.holder_count);
     HOLD(LEFT(words, before));
+    return NULL;
+}
+
+/* The word of bits stands behind r, k and the own card. */
+static const char *wrong_active_counters(void)
+{
+    struct yelansub_active a;
+    begin();
+    a = yelansub_active_counters(words, WORDS);
+    HOLD(a.number == YELANSUB_OK && a.counters == 2);
+    a = yelansub_active_counters(words, WORDS - 1);
+    HOLD(a.number == YELANSUB_BAD_REPLICA && !a.counters);
+    HOLD(LEFT(words, before));
+    words[3] = 6; /* a counter 2, which there is not */
+    a = yelansub_active_counters(words, WORDS);
+    HOLD(a.number == YELANSUB_BAD_REPLICA && !a.counters && words[3] == 6);
+    words[3] = 1; /* disagrees with both rows */
+    a = yelansub_active_counters(words, WORDS);
+    HOLD(a.number == YELANSUB_OK && a.counters == 1 && words[3] == 1);
+    HOLD(yelansub_read(words, WORDS, 0).number == YELANSUB_BAD_ROW);
+    HOLD(yelansub_read(words, WORDS, 1).number == YELANSUB_BAD_ROW);
+    words[3] = 2;
+    HOLD(yelansub_count(words, WORDS, 0, 6, out, sizeof out).number == YELANSUB_OK && LEFT(words, counted_0));
+    a = yelansub_active_counters(words, WORDS);
+    HOLD(a.number == YELANSUB_OK && a.counters == 3 && LEFT(words, counted_0));
     return NULL;
 }
 
@@ -331,6 +359,7 @@ static const struct {
 } exports[] = {
     {"open", wrong_open},
     {"read", wrong_read},
+    {"active_counters", wrong_active_counters},
     {"count", wrong_count},
     {"clear", wrong_clear},
     {"read_and_clear", wrong_read_and_clear},

@@ -9,6 +9,9 @@
 enum { ROUNDS = 20000, CARDS = 5, COUNTERS = 3, KEPT = 64, STEPS = 60, LOG = 400 };
 enum { WORDS = YELANSUB_REPLICA_WORDS(CARDS, COUNTERS), ROOM = 2 * YELANSUB_LONGEST_MESSAGE };
 enum { NUMBERS = YELANSUB_ABOVE_ONE + 1 };
+enum { OWN_AT = 2, ACTIVE_AT = 3 }; /* where words of a replica stand */
+/* What a word of active counters can be met as. */
+enum { NONE_ACTIVE, SOME_ACTIVE, NOT_ITS_COUNTERS, NOT_ITS_ROW, ACTIVES };
 
 static struct {
     uint64_t words[CARDS][WORDS];
@@ -21,6 +24,7 @@ static struct {
     uint64_t answers[2][STEPS * YELANSUB_ANSWER_WORDS];
     struct yelansub_message_reading read;
     uint64_t random, hash, seen[NUMBERS]; /* how often each number was answered */
+    uint64_t met[ACTIVES];
 } state;
 
 static uint32_t draw(uint64_t below)
@@ -84,6 +88,13 @@ static void damage(uint64_t *words, size_t count)
         *word ^= (uint64_t)1 << bit;
 }
 
+/* Or the bit of a counter, there or not, is lost or gained. */
+static void damage_active(uint64_t *words)
+{
+    uint32_t of = draw(4) ? COUNTERS : 64, bit = draw(of);
+    words[ACTIVE_AT] ^= (uint64_t)1 << bit;
+}
+
 static void damage_bytes(uint8_t *bytes, size_t count)
 {
     uint32_t at = draw(count), bit = draw(8);
@@ -129,16 +140,37 @@ static void make(uint64_t *words, uint64_t counter, uint32_t slot, uint32_t how)
 static void spend(uint64_t *words)
 {
     uint32_t of = draw(2), left = draw(2);
-    if (words[2] < CARDS)
-        words[YELANSUB_REPLICA_WORDS(0, 0) + of * CARDS + words[2]] = YELANSUB_MAX - left;
+    if (words[OWN_AT] < CARDS)
+        words[YELANSUB_REPLICA_WORDS(0, 0) + of * CARDS + words[OWN_AT]] = YELANSUB_MAX - left;
+}
+
+/* The active counters of a replica, sound or damaged, by the one word; and whether a row is read otherwise. */
+static void active(const uint64_t *words)
+{
+    struct yelansub_active a = yelansub_active_counters(words, WORDS);
+    uint32_t counter;
+    answer(a.number), mix(a.counters);
+    if (a.number != YELANSUB_OK) {
+        state.met[NOT_ITS_COUNTERS] += words[ACTIVE_AT] >> COUNTERS != 0;
+        return;
+    }
+    state.met[a.counters ? SOME_ACTIVE : NONE_ACTIVE]++;
+    for (counter = 0; counter < COUNTERS; counter++) {
+        struct yelansub_reading row = yelansub_read(words, WORDS, counter);
+        answer(row.number), mix(row.holders);
+        state.met[NOT_ITS_ROW] += (row.holders != 0) != (a.counters >> counter & 1);
+    }
 }
 
 static void read(uint64_t *words, uint64_t counter)
 {
     struct yelansub_reading a = yelansub_read(words, WORDS, counter);
     answer(a.number), mix(a.value), mix(a.holders), mix(a.holder_count);
+    active(words);
     if (rare(20))
         damage(words, WORDS);
+    if (rare(20))
+        damage_active(words);
     if (rare(40))
         spend(words);
 }
@@ -214,7 +246,7 @@ static void draw_step(uint32_t place)
 /* The same run from bytes and from records; then what waits is delivered, over sound or damaged memory. */
 static void run(void)
 {
-    uint32_t i, odd = rare(10), most = draw(40), bad = draw(4);
+    uint32_t i, odd = rare(10), most = draw(40), bad = draw(5), card = draw(CARDS);
     struct yelansub_delivered a;
     for (i = 0; i < STEPS; i++)
         draw_step(i);
@@ -233,10 +265,14 @@ static void run(void)
         damage(state.replicas[1], CARDS * WORDS);
     if (bad == 1)
         damage_bytes(state.logs[1], sizeof state.logs[1] / 4);
+    if (bad == 2)
+        damage_active(state.replicas[1] + card * WORDS);
     a = yelansub_deliver_pending(CARDS, COUNTERS, LOG, most, state.replicas[1], CARDS * WORDS, state.logs[1],
                                  sizeof state.logs[1]);
     answer(a.number), mix(a.deliveries);
     mix_words(state.replicas[1], CARDS * WORDS);
+    for (i = 0; i < CARDS; i++)
+        active(state.replicas[1] + i * WORDS);
 }
 
 static void make_trace(void)
@@ -277,6 +313,11 @@ PROGRAM(trace)
     for (number = 0; number < NUMBERS; number++)
         if (state.seen[number] == 0) {
             SAY("trace: no call has answered %u\n", number);
+            return 1;
+        }
+    for (number = 0; number < ACTIVES; number++)
+        if (state.met[number] == 0) {
+            SAY("trace: no active counters of kind %u\n", number);
             return 1;
         }
     SAY("trace: %016llx\n", (unsigned long long)state.hash);

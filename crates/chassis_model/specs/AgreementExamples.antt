@@ -14,7 +14,7 @@ use Rattle.protocol.specs.RoundRobin.{IsLink, link, times}
 use Rattle.protocol.specs.Entry.{incremented, cleared}
 use Rattle.protocol.specs.Chassis.{count-message, present-entries, clear-message, read-value, read-holders}
 use Rattle.protocol.specs.StoreLaws.{cleared-words, taken-words, shown}
-use Rattle.protocol.specs.Functions.{all-below, count-below}
+use Rattle.protocol.specs.Functions.{bit, with-bit, any-below, all-below, count-below}
 use Rattle.protocol.specs.Acceptance.{entry-well-formed, card-well-formed, all-entries, cards-known, increment-plausible, entry-plausible, plausible, tables-well-formed}
 use Rattle.wire.specs.Number.{number-at, bytes-of}
 use Rattle.wire.specs.Message as form
@@ -101,7 +101,7 @@ pub examples-hold :
     -- nor two that have received as many messages as were written, if one was forged
     × (GenuineHistory 2 2 forged → ⊥) × (has-all 2 2 forged 0 ≡ true) × (has-all 2 2 forged 1 ≡ true)
     × (read-on (cards-after 2 2 forged .words 0) 0 ≡ reading-of 0 0 0) × (read-on (cards-after 2 2 forged .words 1) 0 ≡ reading-of 1 1 1)
-unfolding put sum bits incremented cleared count-message present-entries clear-message read-value read-holders cleared-words taken-words shown number-at bytes-of header-bytes increment-bytes entry-bytes entries-bytes clear-bytes message-bytes header-in-range increment-in-range amount-in-range clear-in-range entry-in-range entries-in-range unused in-range increment-message entries-at called-length message-at reads form.clear-message fresh-words sizes-in-range right replica-fits all-below count-below entry-well-formed card-well-formed row-well-formed tables-well-formed reading read-on send-with words-after count-on clear-on content all-entries cards-known increment-plausible entry-plausible plausible take-with call-of wrote sent called number-of after numbers
+unfolding put sum bits incremented cleared count-message present-entries clear-message read-value read-holders cleared-words taken-words shown number-at bytes-of header-bytes increment-bytes entry-bytes entries-bytes clear-bytes message-bytes header-in-range increment-in-range amount-in-range clear-in-range entry-in-range entries-in-range unused in-range increment-message entries-at called-length message-at reads form.clear-message fresh-words sizes-in-range right replica-fits all-below any-below bit with-bit count-below entry-well-formed card-well-formed row-well-formed tables-well-formed reading read-on send-with words-after count-on clear-on content all-entries cards-known increment-plausible entry-plausible plausible take-with call-of wrote sent called number-of after numbers
 examples-hold = (
   (tt, (tt, (tt, (λ _. inl refl, (tt, (λ _. inl refl, (λ _. inl refl, (λ _. inl refl, tt)))))))),
   refl,

@@ -8,7 +8,7 @@ use Rattle.protocol.specs.Tables.{put, sum, bits}
 use Rattle.protocol.specs.Entry.{incremented, cleared}
 use Rattle.protocol.specs.Chassis.{count-message, present-entries, clear-message, read-value, read-holders}
 use Rattle.protocol.specs.StoreLaws.{cleared-words, taken-words, shown}
-use Rattle.protocol.specs.Functions.{all-below, count-below}
+use Rattle.protocol.specs.Functions.{bit, with-bit, any-below, all-below, count-below}
 use Rattle.protocol.specs.Acceptance.{entry-well-formed, card-well-formed, all-entries, cards-known, increment-plausible, entry-plausible, plausible, tables-well-formed}
 use Rattle.wire.specs.Number.{number-at, bytes-of}
 use Rattle.wire.specs.declared.Message as wire
@@ -80,7 +80,7 @@ pub own-of-linked :
     -- it matters: alone, the right steps give card 1 its read of counter 1, and the mistaken ones do not
     × (own 100 1 linked ≡ mistaken → ⊥)
     × (value-read 100 linked 1 1 ≡ 1) × (value-read 100 (own 100 1 linked) 1 1 ≡ 1) × (value-read 100 mistaken 1 1 ≡ 0)
-unfolding put sum bits incremented cleared count-message present-entries clear-message read-value read-holders cleared-words taken-words shown number-at bytes-of header-bytes increment-bytes entry-bytes entries-bytes clear-bytes message-bytes header-in-range increment-in-range amount-in-range clear-in-range entry-in-range entries-in-range unused in-range increment-message entries-at called-length message-at reads front-length form.clear-message fresh-words sizes-in-range right replica-fits all-below count-below entry-well-formed card-well-formed row-well-formed tables-well-formed reading read-on send-with words-after count-on clear-on read-and-clear-on content all-entries cards-known increment-plausible entry-plausible plausible take-with part put-part waiting-part end-of action-of amount-fits call-of run.made delivered acted state-after answers-of fresh-replicas of-counter own-from
+unfolding put sum bits incremented cleared count-message present-entries clear-message read-value read-holders cleared-words taken-words shown number-at bytes-of header-bytes increment-bytes entry-bytes entries-bytes clear-bytes message-bytes header-in-range increment-in-range amount-in-range clear-in-range entry-in-range entries-in-range unused in-range increment-message entries-at called-length message-at reads front-length form.clear-message fresh-words sizes-in-range right replica-fits all-below any-below bit with-bit count-below entry-well-formed card-well-formed row-well-formed tables-well-formed reading read-on send-with words-after count-on clear-on read-and-clear-on content all-entries cards-known increment-plausible entry-plausible plausible take-with part put-part waiting-part end-of action-of amount-fits call-of run.made delivered acted state-after answers-of fresh-replicas of-counter own-from
 own-of-linked = (
   refl,
   refl,
@@ -111,7 +111,7 @@ pub log-shared :
     × (logged 80 counting 2 ≡ increment-message version-2 0 2 1 2 1 1) × (logged 80 (own 80 1 counting) 1 ≡ increment-message version-2 0 1 1 1 1 1)
     -- The reads are the same.
     × (value-read 80 counting 0 1 ≡ 1) × (value-read 80 (own 80 1 counting) 0 1 ≡ 1)
-unfolding put sum bits incremented cleared count-message present-entries clear-message read-value read-holders cleared-words taken-words shown number-at bytes-of header-bytes increment-bytes entry-bytes entries-bytes clear-bytes message-bytes header-in-range increment-in-range amount-in-range clear-in-range entry-in-range entries-in-range unused in-range increment-message entries-at called-length message-at reads front-length form.clear-message fresh-words sizes-in-range right replica-fits all-below count-below entry-well-formed card-well-formed row-well-formed tables-well-formed reading read-on send-with words-after count-on clear-on read-and-clear-on content all-entries cards-known increment-plausible entry-plausible plausible take-with part put-part waiting-part end-of action-of amount-fits call-of run.made delivered acted state-after answers-of fresh-replicas of-counter own-from
+unfolding put sum bits incremented cleared count-message present-entries clear-message read-value read-holders cleared-words taken-words shown number-at bytes-of header-bytes increment-bytes entry-bytes entries-bytes clear-bytes message-bytes header-in-range increment-in-range amount-in-range clear-in-range entry-in-range entries-in-range unused in-range increment-message entries-at called-length message-at reads front-length form.clear-message fresh-words sizes-in-range right replica-fits all-below any-below bit with-bit count-below entry-well-formed card-well-formed row-well-formed tables-well-formed reading read-on send-with words-after count-on clear-on read-and-clear-on content all-entries cards-known increment-plausible entry-plausible plausible take-with part put-part waiting-part end-of action-of amount-fits call-of run.made delivered acted state-after answers-of fresh-replicas of-counter own-from
 log-shared = (refl, refl, refl, refl, refl, refl, refl, refl, refl)
 
 -- ---- a driver's calls
@@ -136,5 +136,5 @@ pub own-of-history :
     × (own-calls 2 2 1 history ≡ driver.count 0 1 1 buffer ∷ driver.take 1 second ∷ [])
     -- alone, counter 1's message has other bytes: it is card 0's first
     × (replayed 2 (own-calls 2 2 1 history) (opened 2 2) ≡ driver.count 0 1 1 buffer ∷ driver.take 1 (message-bytes (increment-message version-2 0 1 1 1 1 1)) ∷ [])
-unfolding put sum bits incremented cleared count-message present-entries clear-message read-value read-holders cleared-words taken-words shown number-at bytes-of header-bytes increment-bytes entry-bytes entries-bytes clear-bytes message-bytes header-in-range increment-in-range amount-in-range clear-in-range entry-in-range entries-in-range unused in-range increment-message entries-at called-length message-at reads front-length form.clear-message fresh-words sizes-in-range right replica-fits all-below count-below entry-well-formed card-well-formed row-well-formed tables-well-formed reading read-on send-with words-after count-on clear-on read-and-clear-on content all-entries cards-known increment-plausible entry-plausible plausible take-with call-of wrote sent called number-of numbers own-calls-from replayed
+unfolding put sum bits incremented cleared count-message present-entries clear-message read-value read-holders cleared-words taken-words shown number-at bytes-of header-bytes increment-bytes entry-bytes entries-bytes clear-bytes message-bytes header-in-range increment-in-range amount-in-range clear-in-range entry-in-range entries-in-range unused in-range increment-message entries-at called-length message-at reads front-length form.clear-message fresh-words sizes-in-range right replica-fits all-below any-below bit with-bit count-below entry-well-formed card-well-formed row-well-formed tables-well-formed reading read-on send-with words-after count-on clear-on read-and-clear-on content all-entries cards-known increment-plausible entry-plausible plausible take-with call-of wrote sent called number-of numbers own-calls-from replayed
 own-of-history = (refl, refl, refl, refl)

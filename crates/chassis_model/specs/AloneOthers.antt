@@ -47,13 +47,13 @@ send-fits m q b out h =
     (λ e.
     let hq = ltb-true q (counters b) (d .exact 0 .0 e .1 .0) in
     let sends = message-sendable m (cards b) (counters b) (own-card b) q (state b) hq in
-    rw (d .accepted e) (performed b (own-card b) (own-message m b q) h (h .own) (sendable-limits (cards b) (counters b) (own-message m b q) sends) .shows .fits))
+    rw (d .accepted e) (performed b (own-card b) (own-message m b q) h (h .own) (sendable-limits (cards b) (counters b) (own-message m b q) sends) .shows .fits .long))
     (λ no. rw (d .refused no) (h .fits))
 
 take-fits : (b bytes : List ℕ) → Right b → length (take-on b bytes .words) ≡ replica-length (cards b) (counters b)
 take-fits b bytes h =
     by-place (take-on b bytes .answer .number) 0
-    (λ e. take-performs b bytes e .shows .fits)
+    (λ e. take-performs b bytes e .shows .fits .long)
     (λ d. rw (take-decided format-2 b bytes .refused d) (h .fits))
 
 -- ---- the cards of a chassis, one of which gets other words

@@ -14,7 +14,7 @@ use Rattle.protocol.specs.Ledger as ledger
 use Rattle.protocol.specs.Ledger.{applied, made, next-item, rest-items, handed, count-item, holds, clear-names, after-accepted, after-step, after-steps}
 use Rattle.protocol.specs.Chassis.{count-message, present-entries, clear-message, read-value}
 use Rattle.protocol.specs.StoreLaws.{cleared-words, taken-words, shown}
-use Rattle.protocol.specs.Functions.{all-below}
+use Rattle.protocol.specs.Functions.{bit, with-bit, any-below, all-below}
 use Rattle.protocol.specs.Acceptance.{entry-well-formed, card-well-formed, all-entries, cards-known, increment-plausible, entry-plausible, plausible, tables-well-formed}
 use Rattle.wire.specs.Number.{number-at, bytes-of}
 use Rattle.wire.specs.Message as form
@@ -59,7 +59,7 @@ pub unseen-stays :
     × (value-read exchanged 0 ≡ 1) × (value-read exchanged 1 ≡ 1)
     -- and the first was cleared by a card that had received it
     × ClearedBySeer 2 1 0 exchanged (name 0 1)
-unfolding put sum incremented cleared has insert join names-after latest applied ledger.sent made next-item handed count-item after-accepted after-step after-steps count-message present-entries clear-message read-value cleared-words taken-words shown number-at bytes-of header-bytes increment-bytes entry-bytes entries-bytes clear-bytes message-bytes header-in-range increment-in-range amount-in-range clear-in-range entry-in-range entries-in-range unused in-range increment-message entries-at called-length message-at reads form.clear-message fresh-words sizes-in-range right replica-fits all-below entry-well-formed card-well-formed row-well-formed tables-well-formed reading read-on send-with words-after count-on clear-on content all-entries cards-known increment-plausible entry-plausible plausible take-with ledger-action call-of wrote sent called number-of after numbers
+unfolding put sum incremented cleared has insert join names-after latest applied ledger.sent made next-item handed count-item after-accepted after-step after-steps count-message present-entries clear-message read-value cleared-words taken-words shown number-at bytes-of header-bytes increment-bytes entry-bytes entries-bytes clear-bytes message-bytes header-in-range increment-in-range amount-in-range clear-in-range entry-in-range entries-in-range unused in-range increment-message entries-at called-length message-at reads form.clear-message fresh-words sizes-in-range right replica-fits all-below any-below bit with-bit entry-well-formed card-well-formed row-well-formed tables-well-formed reading read-on send-with words-after count-on clear-on content all-entries cards-known increment-plausible entry-plausible plausible take-with ledger-action call-of wrote sent called number-of after numbers
 unseen-stays = (
   refl,
   refl,
@@ -82,7 +82,7 @@ unseen-stays = (
 
 -- the second is cancelled on no card
 nowhere : (i : ℕ) → has (history-ledger 2 1 exchanged 0 .cancelled i) (name 0 2) ≡ false
-unfolding put incremented cleared has insert join names-after any latest beyond applied ledger.sent made next-item rest-items handed count-item holds clear-names after-accepted after-step after-steps count-message present-entries clear-message cleared-words taken-words shown number-at bytes-of header-bytes entry-bytes entries-bytes clear-bytes message-bytes header-in-range increment-in-range amount-in-range clear-in-range entry-in-range entries-in-range unused in-range increment-message entries-at called-length message-at reads form.clear-message fresh-words sizes-in-range right replica-fits all-below entry-well-formed card-well-formed row-well-formed tables-well-formed send-with words-after count-on clear-on content all-entries cards-known increment-plausible entry-plausible plausible take-with ledger-action call-of wrote sent called number-of after numbers
+unfolding put incremented cleared has insert join names-after any latest beyond applied ledger.sent made next-item rest-items handed count-item holds clear-names after-accepted after-step after-steps count-message present-entries clear-message cleared-words taken-words shown number-at bytes-of header-bytes entry-bytes entries-bytes clear-bytes message-bytes header-in-range increment-in-range amount-in-range clear-in-range entry-in-range entries-in-range unused in-range increment-message entries-at called-length message-at reads form.clear-message fresh-words sizes-in-range right replica-fits all-below any-below bit with-bit entry-well-formed card-well-formed row-well-formed tables-well-formed send-with words-after count-on clear-on content all-entries cards-known increment-plausible entry-plausible plausible take-with ledger-action call-of wrote sent called number-of after numbers
 nowhere zero = refl
 nowhere (suc zero) = refl
 nowhere (suc (suc i)) = rw (ne-eqb (suc (suc i)) 0 (λ e. omega arith), ne-eqb (suc (suc i)) 1 (λ e. omega arith))

@@ -14,6 +14,7 @@ use Rattle.protocol.specs.OwnBounded.{fresh-bounded}
 use Rattle.protocol.specs.Theorem.{fresh-invariant}
 use Rattle.wire.specs.Message.{log-bytes}
 use Rattle.replica_model.specs.Layout.{replica-length, fresh-words}
+use Rattle.replica_model.specs.FreshReplica.{fresh-row}
 use Rattle.replica_model.specs.LayoutLaws.{fresh-shows}
 use Rattle.chassis_model.specs.ListParts.{part}
 use Rattle.chassis_model.specs.ListPartsLaws.{part-room, part-front}
@@ -31,14 +32,14 @@ module _ (r k : ℕ) where
   unfolding fresh-replicas
   fresh-length zero = omega arith
   fresh-length (suc n) =
-      length-append (fresh-replicas r k n) (fresh-words r k n) ∙ omega (arith, fresh-length n, fresh-shows r k n .fits, suc-mul n (replica-length r k))
+      length-append (fresh-replicas r k n) (fresh-words r k n) ∙ omega (arith, fresh-length n, fresh-shows r k n .fits .long, suc-mul n (replica-length r k))
 
   -- the last of n + 1 parts
   last-part : (n : ℕ) → part (replica-length r k) (fresh-replicas r k n ++ fresh-words r k n) n ≡ fresh-words r k n
   unfolding part
   last-part n =
       rw (drop-at (fresh-replicas r k n) (fresh-words r k n) (n * replica-length r k) (fresh-length n))
-      (take-all (replica-length r k) (fresh-words r k n) (let e = fresh-shows r k n .fits in omega arith))
+      (take-all (replica-length r k) (fresh-words r k n) (let e = fresh-shows r k n .fits .long in omega arith))
 
   fresh-part : (n i : ℕ) → i < n → part (replica-length r k) (fresh-replicas r k n) i ≡ fresh-words r k i
   unfolding fresh-replicas
@@ -67,6 +68,7 @@ unfolding numbered
 fresh-cards-show r k = record {
   heads = λ i l. fresh-heads r k i;
   shows = λ i l. fresh-shows r k i;
+  marked = λ i q l hq. fresh-row r k i q l hq .marked;
   readable = λ j l n m. absurd (omega arith);
   sendable = λ j l n m. absurd (omega arith);
   own = fresh-bounded MAX;

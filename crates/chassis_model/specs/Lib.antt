@@ -14,6 +14,7 @@ pub mod Algorithm1Of
 pub mod Pending
 pub mod HistoryOf
 pub mod Cleared
+pub mod ActiveOf
 -- CLAIMS
 pub mod Claims
 pub mod Scenarios
@@ -32,6 +33,7 @@ pub mod ClearClaims
 pub mod ClearedExamples
 pub mod QuietClaims
 pub mod QuietExamples
+pub mod ActiveClaims
 -- LAWS. Lists in parts, logs of messages.
 pub mod ListPartsLaws
 pub mod LogLaws
@@ -80,3 +82,4 @@ pub mod DriverAlone
 pub mod ReadAndClearLaws
 pub mod ClearedLaws
 pub mod QuietLaws
+pub mod ActiveOfLaws

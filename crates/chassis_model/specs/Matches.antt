@@ -71,7 +71,7 @@ module _ {r k L : ℕ} (now : RunAt r k L) where
 
 module _ {r k L : ℕ} (now : RunAt r k L) (i : ℕ) (hi : i < r) (b : List ℕ) {ch : Chassis} (shows : CardsShow r k (put i b (words-in now)) ch) where
   put-length : length b ≡ replica-length r k
-  put-length = rw (put-same i b (words-in now)) at (shows .shows i hi .fits)
+  put-length = rw (put-same i b (words-in now)) at (shows .shows i hi .fits .long)
 
   pub put-words-fit : length (put-part (replica-length r k) i b (now .state .words)) ≡ r * replica-length r k
   put-words-fit = put-part-length r (replica-length r k) i b (now .state .words) (now .matches .words-fit) hi put-length

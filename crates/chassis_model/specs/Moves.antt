@@ -14,9 +14,9 @@ use Rattle.protocol.specs.Chassis.{Message, no-message, Replica, Chassis, taken
 use Rattle.protocol.specs.StoreLaws.{Shows, InLimits, taken-shows}
 use Rattle.protocol.specs.OwnBounded.{issued-bounded, delivered-bounded}
 use Rattle.protocol.specs.Theorem.{Invariant, step-invariant}
-use Rattle.replica_model.specs.Layout.{layout}
-use Rattle.replica_model.specs.ClaimTerms.{Right}
-use Rattle.replica_model.specs.Performed.{performed}
+use Rattle.replica_model.specs.Layout.{cards, layout}
+use Rattle.replica_model.specs.ClaimTerms.{Right, MarkedIn}
+use Rattle.replica_model.specs.Performed.{performed, row-marked}
 use Rattle.replica_model.specs.Format.{on-wire}
 use Rattle.replica_model.specs.Calls.{words-after}
 use Rattle.replica_model.specs.LayoutLaws.{same-cards, lawful, same-counters, same-own}
@@ -39,6 +39,12 @@ module _ (r k i s : ℕ) (m : Message) (b : List ℕ) (h : Heads r k i b) (hs : 
   taken-alike : (c : Replica) → Shows (layout r k) r k b c → Shows (layout r k) r k (words-after s m b) (taken s m c)
   unfolding words-after
   taken-alike c shows = rw (h .cards-are, h .counters-are) (taken-shows r k (layout r k) (lawful r k) s m b c hs on shows)
+
+  taken-marks : Right b → (q : ℕ) → q < k → MarkedIn b q → MarkedIn (words-after s m b) q
+  taken-marks f q hq w =
+      let hs′ : s < cards b = rw (h .cards-are) hs in
+      let done = performed b s m f hs′ (rw (h .cards-are, h .counters-are) on) in
+      rw (same-cards b (words-after s m b) (done .same-head)) (row-marked b s m (words-after s m b) done f hs′ q (rw (h .counters-are) hq) w)
 
 -- ---- the chassis
 
@@ -66,6 +72,7 @@ module _ {r k : ℕ} (now : CardsAt r k) where
       record {
         heads = λ j l. by-place j i (λ e. rw e (simp put-same (taken-heads r k i i m (now .replicas i) (shown .heads i hi) hi on (reached-right now i hi)))) (λ d. simp put-other (shown .heads j l));
         shows = λ j l. by-place j i (λ e. simp put-at (taken-alike r k i i m (now .replicas i) (shown .heads i hi) hi on (now .chassis .replica i) (shown .shows i hi))) (λ d. simp put-other (shown .shows j l));
+        marked = λ j q l hq. by-place j i (λ e. simp put-at (taken-marks r k i i m (now .replicas i) (shown .heads i hi) hi on (reached-right now i hi) q hq (shown .marked i q hi hq))) (λ d. simp put-other (shown .marked j q l hq));
         readable = λ j l. by-place j i (λ e. rw e (simp put-same log-more)) (λ d. simp put-other (shown .readable j l));
         sendable = λ j l n.
             by-place j i
@@ -84,6 +91,7 @@ module _ {r k : ℕ} (now : CardsAt r k) where
       record {
         heads = λ j l. by-place j i (λ e. rw e (simp put-same (taken-heads r k i s m (now .replicas i) (shown .heads i hi) hs on (reached-right now i hi)))) (λ d. simp put-other (shown .heads j l));
         shows = λ j l. by-place j i (λ e. simp put-at (taken-alike r k i s m (now .replicas i) (shown .heads i hi) hs on (now .chassis .replica i) (shown .shows i hi))) (λ d. simp put-other (shown .shows j l));
+        marked = λ j q l hq. by-place j i (λ e. simp put-at (taken-marks r k i s m (now .replicas i) (shown .heads i hi) hs on (reached-right now i hi) q hq (shown .marked i q hi hq))) (λ d. simp put-other (shown .marked j q l hq));
         readable = shown .readable;
         sendable = shown .sendable;
         own = delivered-bounded MAX i s (now .chassis) apart (shown .own);
@@ -95,6 +103,7 @@ pub cards-show-same : (r k : ℕ) (replicas replicas′ : ℕ → List ℕ) (ch 
 cards-show-same r k replicas replicas′ ch e a = record {
   heads = λ i l. rw (e i l) (a .heads i l);
   shows = λ i l. rw (e i l) (a .shows i l);
+  marked = λ i q l m. rw (e i l) (a .marked i q l m);
   readable = a .readable;
   sendable = a .sendable;
   own = a .own;

@@ -1,6 +1,6 @@
 -- LAWS. The transport of words and bytes is orderly on every state that the checks before a call pass (`Checked`), reached by a run or not: a delivery that is
 -- accepted raises the receiver's N of the sender by one and nothing else of N, and the checks pass again; one that is declined leaves all as it was.
-use Prim.Native.Nat.{ℕ, suc, _+_, _-_, _*_, _≤_, _<_}
+use Prim.Native.Nat.{ℕ, suc, _+_, _-_, _*_, _^_, _≤_, _<_}
 use mathlib.Core.Path.{_≡_, refl, sym, ap, _∙_}
 use mathlib.Core.Bool.{true, false}
 use mathlib.Core.List.{List}
@@ -16,7 +16,7 @@ use Rattle.protocol.specs.AcceptanceLaws.{below-facts, below-from}
 use Rattle.protocol.specs.RoundRobin.{IsLink, Orderly}
 use Rattle.protocol.specs.RoundRobinLaws.{by-link}
 use Rattle.wire.specs.Message.{version-2, message-at}
-use Rattle.replica_model.specs.Layout.{replica-length}
+use Rattle.replica_model.specs.Layout.{replica-length, active-word}
 use Rattle.replica_model.specs.Calls.{sizes-in-range, in-place, row-well-formed, take-on}
 use Rattle.replica_model.specs.ClaimTerms.{OnlyMoves}
 use Rattle.replica_model.specs.Claims.{take-performs, take-moves, take-keeps, take-exact}
@@ -30,13 +30,14 @@ use Rattle.chassis_model.specs.Log.{waiting-part}
 use Rattle.chassis_model.specs.Run.{State, answered, N-at, replica-of, log-of, delivered, chassis-fits}
 use Rattle.chassis_model.specs.Pending.{state-links, is-numbered, begins-with, log-right, pending-checks}
 
--- What the checks before a call say, of words and logs that may come from no run: sizes in range, r replicas each in its place with well-formed rows, and r
+-- What the checks before a call say, of words and logs that may come from no run: sizes in range, r replicas each in its place with no bit at k or above and well-formed rows, and r
 -- logs, each of which begins with the messages of its own card, as far as its own N, above which no receiver's N of that card is.
 pub record Checked (r k L : ℕ) (st : State) : Type 0 where
   pub sizes : Sizes r k
   pub words-fit : length (st .words) ≡ r * replica-length r k
   pub logs-fit : length (st .logs) ≡ r * L
   pub heads : (i : ℕ) → i < r → Heads r k i (replica-of r k L st i)
+  pub low : (i : ℕ) → i < r → active-word (replica-of r k L st i) < 2 ^ k
   pub rows : (i q : ℕ) → i < r → q < k → row-well-formed (replica-of r k L st i) q ≡ true
   pub numbered : (s n : ℕ) → s < r → n < N-at r k L st s s → is-numbered s (suc n) (waiting-part (suc n) (log-of r k L st s)) ≡ true
   pub few : (i s : ℕ) → i < r → s < r → N-at r k L st i s ≤ N-at r k L st s s
@@ -52,7 +53,8 @@ passes-checked r k L st (fits, (places, (formed, (logs, _)))) =
       logs-fit = f .1;
       heads = λ i hi.
           let h = simp tests at (below-facts r (λ i. in-place r k i (replica-of r k L st i)) places i hi) in
-          record { cards-are = h .0 .0; counters-are = h .0 .1; own-is = h .1 };
+          record { cards-are = h .0 .0 .0; counters-are = h .0 .0 .1; own-is = h .0 .1 };
+      low = λ i hi. (simp tests at (below-facts r (λ i. in-place r k i (replica-of r k L st i)) places i hi)) .1;
       rows = λ i q hi.
           below-facts k (row-well-formed (replica-of r k L st i)) (below-facts r (λ i. all-below k (row-well-formed (replica-of r k L st i))) formed i hi) q;
       numbered = λ s n hs l.
@@ -69,7 +71,7 @@ module _ (r k L : ℕ) (st : State) (g : Checked r k L st) where
   passes-fits = let z = g .sizes in let w = g .words-fit in let l = g .logs-fit in simp tests (omega arith)
 
   passes-place : (i : ℕ) → i < r → in-place r k i (replica-of r k L st i) ≡ true
-  passes-place i hi = let h = g .heads i hi in simp tests ((h .cards-are, h .counters-are), h .own-is)
+  passes-place i hi = let h = g .heads i hi in simp tests (((h .cards-are, h .counters-are), h .own-is), g .low i hi)
 
   passes-log : (s : ℕ) → s < r → log-right r k L st s ≡ true
   unfolding log-right begins-with
@@ -105,7 +107,7 @@ module _ (r k L i s : ℕ) (st : State) (is : IsLink r i s) (g : Checked r k L s
     from-s = let h = simp tests at (g .numbered s (N-at r k L st i s) (is .1) (omega arith)) in h .0 .1
 
     fits : length words ≡ replica-length r k
-    fits = rw (g .heads i (is .0) .cards-are, g .heads i (is .0) .counters-are) at (take-performs (replica-of r k L st i) bytes taken .shows .fits)
+    fits = rw (g .heads i (is .0) .cards-are, g .heads i (is .0) .counters-are) at (take-performs (replica-of r k L st i) bytes taken .shows .fits .long)
 
     replica-after : (j : ℕ) → replica-of r k L (delivered r k L i s st .state) j ≡ put i words (replica-of r k L st) j
     replica-after j = rw one-tried (part-put r (replica-length r k) i words (st .words) (g .words-fit) (is .0) fits j)
@@ -147,6 +149,13 @@ module _ (r k L i s : ℕ) (st : State) (is : IsLink r i s) (g : Checked r k L s
             own-is = same-own b words (p .same-head) ∙ g .heads i (is .0) .own-is;
           }))
           (λ d. rw (put-other i words (replica-of r k L st) j d) (g .heads j hj)));
+      low = λ j hj.
+          rw (replica-after j)
+          (by-place j i
+          (λ c.
+          rw (put-at i words (replica-of r k L st) j c)
+          (rw (g .heads i (is .0) .counters-are) at (take-performs (replica-of r k L st i) bytes taken .shows .fits .low)))
+          (λ d. rw (put-other i words (replica-of r k L st) j d) (g .low j hj)));
       rows = λ j q hj hq.
           rw (replica-after j)
           (by-place j i

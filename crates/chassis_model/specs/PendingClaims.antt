@@ -1,18 +1,23 @@
 -- CLAIMS. Delivering what waits, in rounds (SPECIFICATION 6.3), over words and logs: what a caller relies on beyond the call's own equation (`Pending`). Each has its
 -- sentence, its statement, and the law that proves it. First of any words and logs; then of those that a run and any number of calls behind it leave.
-use Prim.Native.Nat.{ℕ, _+_, _-_, _*_, _≤_, _<_}
+use Prim.Native.Nat.{ℕ, _+_, _-_, _*_, _^_, _≤_, _<_}
 use mathlib.Core.Path.{_≡_, ap}
 use mathlib.Core.Bool.{true, false}
 use mathlib.Core.Logic.{_⊎_}
 use mathlib.Core.List.{List, _++_, map}
+use native.Mathlib.Omega.{arith}
 use lib.ListN.{length, take, replicate, length-replicate}
+use Rattle.protocol.specs.Limits.{bad-replica, bad-row}
 use Rattle.protocol.specs.Checks.{Decided}
+use Rattle.protocol.specs.ChecksLaws.{refusal-given}
+use Rattle.protocol.specs.AcceptanceLaws.{below-from}
 use Rattle.protocol.specs.RoundRobin.{IsLink, Progress, times, replayed, AllDeliver, PassedOver}
 use Rattle.protocol.specs.Increments.{increments-received}
-use Rattle.replica_model.specs.Layout.{replica-length}
-use Rattle.replica_model.specs.Calls.{read-on}
+use Rattle.replica_model.specs.Layout.{replica-length, active-word}
+use Rattle.replica_model.specs.Calls.{in-place, read-on}
+use Rattle.replica_model.specs.ClaimTerms.{MarkedIn}
 use Rattle.chassis_model.specs.ListParts.{part}
-use Rattle.chassis_model.specs.Run.{Step, action-of, State, state-of, N-at, answer-length, numbers-in, values-in, state-after, sizes-right, RunOutcome, run-on}
+use Rattle.chassis_model.specs.Run.{Step, action-of, State, state-of, N-at, replica-of, answer-length, numbers-in, values-in, state-after, chassis-fits, sizes-right, RunOutcome, run-on}
 use Rattle.chassis_model.specs.Ledger.{ledger-step, accepted-of, ledger-of, ledger-reading}
 use Rattle.chassis_model.specs.Pending.{state-links, pump, all-waiting, pending-checks, none-delivered, delivered-all, deliver-pending-on, words-after-calls, pump-steps, steps-of-calls}
 use Rattle.chassis_model.specs.ReadAndClearOf.{OnlyReadAndClears, collected}
@@ -29,6 +34,21 @@ module _ (r k L b : ℕ) (words logs : List ℕ) where
   pub deliver-pending-exact : Decided (λ o. o .answer .number) (none-delivered words) (pending-checks r k L (state-of words logs)) (delivered-all (pump r k L b (state-of words logs)))
       (deliver-pending-on r k L b words logs)
   deliver-pending-exact = laws.decided r k L b words logs
+
+  -- A one at bit k or above in any card's word of active counters is 1, whatever the rows and logs hold.
+  pub high-bit-refused : chassis-fits r k L (length words) (length logs) ≡ true
+      → (i : ℕ) → i < r → 2 ^ k ≤ active-word (replica-of r k L (state-of words logs) i)
+      → deliver-pending-on r k L b words logs ≡ none-delivered words bad-replica
+  high-bit-refused fits i hi high =
+      refusal-given deliver-pending-exact bad-replica (λ e. omega arith) (fits, laws.high-misplaced r k L (state-of words logs) i hi high)
+
+  -- A row of any card whose bit disagrees is 2, where every replica is in its place, whatever the logs hold.
+  pub unmarked-refused : chassis-fits r k L (length words) (length logs) ≡ true
+      → ((i : ℕ) → i < r → in-place r k i (replica-of r k L (state-of words logs) i) ≡ true)
+      → (i q : ℕ) → i < r → q < k → (MarkedIn (replica-of r k L (state-of words logs) i) q → ⊥)
+      → deliver-pending-on r k L b words logs ≡ none-delivered words bad-row
+  unmarked-refused fits places i q hi hq apart =
+      refusal-given deliver-pending-exact bad-row (λ e. omega arith) (fits, (below-from r _ places, laws.unmarked-fails r k L (state-of words logs) i q hi hq apart))
 
   -- "makes at most b deliveries", whatever is handed in
   pub at-most : deliver-pending-on r k L b words logs .answer .deliveries ≤ b

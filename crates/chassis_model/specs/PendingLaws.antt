@@ -2,18 +2,21 @@
 -- orderly transport holds of it, and what it leaves passes them again. Of a state that a run reaches: the checks pass and what waits is accepted, so a call
 -- is the run of its deliveries as deliver steps, each answered with 0 and 0; so are calls one after the other. Where nothing waits any more all cards read
 -- the same.
-use Prim.Native.Nat.{ℕ, suc, _+_, _-_, _*_, _≤_, _<_}
+use Prim.Native.Nat.{ℕ, suc, _+_, _-_, _*_, _^_, _≤_, _<_}
 use mathlib.Core.Path.{_≡_, refl, sym, ap, ap₂, _∙_}
-use mathlib.Core.Bool.{true, false}
+use mathlib.Core.Bool.{Bool, true, false, _&&_, false≢true}
 use mathlib.Core.Logic.{_⊎_, inl, inr}
 use mathlib.Core.List.{List, [], _∷_, _++_}
 use native.Mathlib.Omega.{arith}
 use lib.Dec.{eqb}
 use lib.ListN.{length, take, replicate, length-append, length-replicate, replicate-append-replicate}
-use borrow.Author.Tests.{eqb-true}
+use borrow.Author.Tests.{eqb-true, le-ltb}
+use Rattle.protocol.specs.Cases.{and-no-right, not-yes}
+use Rattle.protocol.specs.Functions.{all-below}
 use Rattle.protocol.specs.Checks.{Decided}
 use Rattle.protocol.specs.ChecksLaws as checks
 use Rattle.protocol.specs.ChecksLaws.{checked-cases, gives-passes, passes-gives}
+use Rattle.protocol.specs.AcceptanceLaws.{below-facts}
 use Rattle.protocol.specs.Ledger.{Ledger}
 use Rattle.protocol.specs.Chassis.{Chassis}
 use Rattle.protocol.specs.RoundRobin.{Link, IsLink, times, replayed, AllDeliver, Orderly, PassedOver}
@@ -22,12 +25,13 @@ use Rattle.protocol.specs.RoundRobinMade.{times-none, times-this, times-that, t
 use Rattle.protocol.specs.RoundRobinEnd as end
 use Rattle.protocol.specs.RoundRobinEnd.{stops, drained, never-passed}
 use Rattle.protocol.specs.RoundRobinBound.{served-within}
-use Rattle.replica_model.specs.Layout.{replica-length}
-use Rattle.replica_model.specs.Calls.{read-on}
-use Rattle.replica_model.specs.RowLaws.{tests, row-from}
+use Rattle.replica_model.specs.Layout.{cards, counters, own-card, replica-length, active-word}
+use Rattle.replica_model.specs.Calls.{in-place, row-well-formed, read-on}
+use Rattle.replica_model.specs.ClaimTerms.{MarkedIn}
+use Rattle.replica_model.specs.RowLaws.{tests, row-from, row-unmarked}
 use Rattle.chassis_model.specs.ListParts.{part}
 use Rattle.chassis_model.specs.Log.{waiting-part}
-use Rattle.chassis_model.specs.Run.{Step, Deliver, action-of, amount-fits, State, state-of, N-at, delivered, step-on, state-after, answer-words, answer-length, answers-of, sizes-right, RunOutcome, run-on, deliver-kind}
+use Rattle.chassis_model.specs.Run.{Step, Deliver, action-of, amount-fits, State, state-of, N-at, replica-of, delivered, step-on, state-after, answer-words, answer-length, answers-of, sizes-right, RunOutcome, run-on, deliver-kind}
 use Rattle.chassis_model.specs.Ledger.{ledger-of, ledger-reading}
 use Rattle.chassis_model.specs.Answers.{fresh-state}
 use Rattle.chassis_model.specs.InStep.{reached-N, reached-row, received-few, own-N}
@@ -95,6 +99,21 @@ module _ (r k L : ℕ) where
       (link-step (l .receiver) (l .sender) st (a .0 .0) (a .0 .1))
       ∙ ap₂ (λ n xs. n ∷ 0 ∷ xs) (eqb-true (done .answer .number) 0 (a .0 .2)) (answered-zeros ls (done .state) (a .1))
       ∙ ap (λ n. replicate {A = ℕ} n 0) (sym next)
+
+-- ---- one card's word or row that fails a check
+
+one-fails : (n : ℕ) (f : ℕ → Bool) (j : ℕ) → j < n → f j ≡ false → all-below n f ≡ false
+one-fails n f j l e = not-yes (all-below n f) (λ all. false≢true (sym e ∙ below-facts n f all j l))
+
+module _ (r k L : ℕ) (st : State) where
+  pub high-misplaced : (i : ℕ) → i < r → 2 ^ k ≤ active-word (replica-of r k L st i) → all-below r (λ i. in-place r k i (replica-of r k L st i)) ≡ false
+  high-misplaced i hi high =
+      let b = replica-of r k L st i in
+      one-fails r _ i hi (and-no-right (eqb (cards b) r && eqb (counters b) k && eqb (own-card b) i) _ (le-ltb (active-word b) (2 ^ k) high))
+
+  pub unmarked-fails : (i q : ℕ) → i < r → q < k → (MarkedIn (replica-of r k L st i) q → ⊥)
+      → all-below r (λ i. all-below k (row-well-formed (replica-of r k L st i))) ≡ false
+  unmarked-fails i q hi hq apart = one-fails r _ i hi (one-fails k _ q hq (row-unmarked (replica-of r k L st i) q apart))
 
 -- ---- any words and logs
 
@@ -193,6 +212,7 @@ module _ {r k L : ℕ} (now : RunAt r k L) where
     words-fit = now .matches .words-fit;
     logs-fit = now .matches .logs-fit;
     heads = now .matches .cards .cards-show .heads;
+    low = λ i hi. now .matches .cards .cards-show .shows i hi .fits .low;
     rows = λ i q hi hq. row-from (words-in now i) q (reached-row (run-cards now) i q hi hq);
     numbered = reached-numbered;
     few = λ i s hi hs.

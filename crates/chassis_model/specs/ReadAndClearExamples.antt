@@ -9,7 +9,7 @@ use Rattle.protocol.specs.Tables.{put, sum, bits}
 use Rattle.protocol.specs.Entry.{incremented, cleared}
 use Rattle.protocol.specs.Chassis.{count-message, present-entries, clear-message, read-value, read-holders}
 use Rattle.protocol.specs.StoreLaws.{cleared-words, taken-words, shown}
-use Rattle.protocol.specs.Functions.{all-below, count-below}
+use Rattle.protocol.specs.Functions.{bit, with-bit, any-below, all-below, count-below}
 use Rattle.protocol.specs.Acceptance.{entry-well-formed, card-well-formed, all-entries, cards-known, increment-plausible, entry-plausible, plausible, tables-well-formed}
 use Rattle.protocol.specs.OneClears.{is-clear}
 use Rattle.protocol.specs.Increments.{increments-from, increments-received}
@@ -66,7 +66,7 @@ pub collecting-adds-up :
     -- another card's read and clear breaks it, and so does a plain clear by the card itself
     × (total 0 0 (count 0 0 ∷ deliver 1 0 ∷ read-and-clear 1 0 ∷ deliver 0 1 ∷ read-and-clear 0 0 ∷ []) ≡ of-three 0 0 1)
     × (total 0 0 (count 0 0 ∷ clear 0 0 ∷ read-and-clear 0 0 ∷ []) ≡ of-three 0 0 1)
-unfolding put sum bits incremented cleared count-message present-entries clear-message read-value read-holders cleared-words taken-words shown number-at bytes-of header-bytes increment-bytes entry-bytes entries-bytes clear-bytes message-bytes header-in-range increment-in-range amount-in-range clear-in-range entry-in-range entries-in-range unused in-range increment-message entries-at called-length message-at reads front-length form.clear-message fresh-words sizes-in-range right replica-fits all-below count-below entry-well-formed card-well-formed row-well-formed tables-well-formed reading read-on send-with words-after count-on clear-on read-and-clear-on content all-entries cards-known increment-plausible entry-plausible plausible take-with part put-part waiting-part end-of action-of amount-fits call-of run.made delivered acted state-after answers-of numbers-in values-in fresh-replicas ledger-action increments-from is-read-and-clear collected
+unfolding put sum bits incremented cleared count-message present-entries clear-message read-value read-holders cleared-words taken-words shown number-at bytes-of header-bytes increment-bytes entry-bytes entries-bytes clear-bytes message-bytes header-in-range increment-in-range amount-in-range clear-in-range entry-in-range entries-in-range unused in-range increment-message entries-at called-length message-at reads front-length form.clear-message fresh-words sizes-in-range right replica-fits all-below any-below bit with-bit count-below entry-well-formed card-well-formed row-well-formed tables-well-formed reading read-on send-with words-after count-on clear-on read-and-clear-on content all-entries cards-known increment-plausible entry-plausible plausible take-with part put-part waiting-part end-of action-of amount-fits call-of run.made delivered acted state-after answers-of numbers-in values-in fresh-replicas ledger-action increments-from is-read-and-clear collected
 collecting-adds-up = (refl, refl, refl, refl, refl, refl, refl)
 
 -- The total speaks of this list, card 1 and counter 0: its accepted clears of counter 0 are card 1's read and clears.
@@ -88,5 +88,5 @@ pub history-adds-up :
     × (increments-received 1 0 (map call-step history) (accepted-of answered) ≡ 2)
     -- read right before the accepted one, it was 1 too; before the refused one nothing is taken
     × (reads-before 1 0 history (opened 2 1) ≡ 1)
-unfolding put sum bits incremented cleared count-message present-entries clear-message read-value read-holders cleared-words taken-words shown number-at bytes-of header-bytes increment-bytes entry-bytes entries-bytes clear-bytes message-bytes header-in-range increment-in-range amount-in-range clear-in-range entry-in-range entries-in-range unused in-range increment-message entries-at called-length message-at reads front-length form.clear-message fresh-words sizes-in-range right replica-fits all-below count-below entry-well-formed card-well-formed row-well-formed tables-well-formed reading read-on send-with words-after count-on clear-on read-and-clear-on content all-entries cards-known increment-plausible entry-plausible plausible take-with call-of wrote sent called number-of value-of after numbers values ledger-action increments-from is-read-and-clear collected is-clear reads-before
+unfolding put sum bits incremented cleared count-message present-entries clear-message read-value read-holders cleared-words taken-words shown number-at bytes-of header-bytes increment-bytes entry-bytes entries-bytes clear-bytes message-bytes header-in-range increment-in-range amount-in-range clear-in-range entry-in-range entries-in-range unused in-range increment-message entries-at called-length message-at reads front-length form.clear-message fresh-words sizes-in-range right replica-fits all-below any-below bit with-bit count-below entry-well-formed card-well-formed row-well-formed tables-well-formed reading read-on send-with words-after count-on clear-on read-and-clear-on content all-entries cards-known increment-plausible entry-plausible plausible take-with call-of wrote sent called number-of value-of after numbers values ledger-action increments-from is-read-and-clear collected is-clear reads-before
 history-adds-up = (refl, refl, refl, refl, refl, refl)

@@ -36,11 +36,13 @@ module _ {r k : ℕ} (now : CardsAt r k) (i q : ℕ) (hi : i < r) (hq : q < k) w
   holding-is j = let ok = now .in-step .invariants q in sym (holds-is q (ok .notes) (ok .valid) i (ok .row i) (now .chassis .replica i) (now .ledgers q) (ok .cards i) j)
 
   -- and so are the words'
+  pub holding-there : (j : ℕ) → j < r → present (entry-of r (now .replicas i) q j) ≡ holds i j (now .ledgers q)
+  holding-there j l = ap present (now .in-step .cards-show .shows i hi .entries q j hq l) ∙ holding-is j
+
   pub holders-counted : holders (now .replicas i) q ≡ count-below r (λ j. holds i j (now .ledgers q))
   holders-counted =
       rw (now .in-step .cards-show .heads i hi .cards-are)
-      (count-cong r (λ j. present (entry-of r (now .replicas i) q j)) (λ j. holds i j (now .ledgers q))
-      (λ j l. ap present (now .in-step .cards-show .shows i hi .entries q j hq l) ∙ holding-is j))
+      (count-cong r (λ j. present (entry-of r (now .replicas i) q j)) (λ j. holds i j (now .ledgers q)) holding-there)
 
   reading-matches : reading (now .replicas i) q ≡ ledger-reading r i (now .ledgers q)
   unfolding ledger-reading

@@ -13,7 +13,7 @@ use Rattle.protocol.specs.Names.{has, insert, join, names-after, tally, any, la
 use Rattle.protocol.specs.Ledger.{applied, sent, made, next-item, rest-items, handed, count-item, holds, clear-names, after-accepted, after-step, after-steps, ledger-value, ledger-holders}
 use Rattle.protocol.specs.Chassis.{count-message, present-entries, clear-message, read-value, read-holders}
 use Rattle.protocol.specs.StoreLaws.{cleared-words, taken-words, shown}
-use Rattle.protocol.specs.Functions.{all-below, count-below}
+use Rattle.protocol.specs.Functions.{bit, with-bit, any-below, all-below, count-below}
 use Rattle.protocol.specs.Acceptance.{entry-well-formed, card-well-formed, all-entries, cards-known, increment-plausible, entry-plausible, plausible, tables-well-formed}
 use Rattle.wire.specs.Number.{number-at, bytes-of}
 use Rattle.wire.specs.Message as form
@@ -159,7 +159,7 @@ scenarios =
     ∷ []
 
 pub scenarios-hold : all-good scenarios ≡ true
-unfolding all-good holds-good scenarios listing overtaking not-yet sum-of put sum bits incremented cleared has insert join names-after tally any latest beyond applied sent made next-item rest-items handed count-item holds clear-names after-accepted after-step after-steps ledger-value ledger-holders count-message present-entries clear-message read-value read-holders cleared-words taken-words shown number-at bytes-of header-bytes increment-bytes entry-bytes entries-bytes clear-bytes message-bytes header-in-range increment-in-range amount-in-range clear-in-range entry-in-range entries-in-range unused in-range increment-message entries-at called-length message-at reads front-length form.clear-message fresh-words sizes-in-range right replica-fits all-below count-below entry-well-formed card-well-formed row-well-formed tables-well-formed reading read-on send-with words-after count-on clear-on content all-entries cards-known increment-plausible entry-plausible plausible take-with part put-part waiting-part end-of action-of amount-fits call-of run.made delivered acted state-after answers-of numbers-in fresh-replicas chassis-fits sizes-right run-on ledger-action ledger-of ledger-reading
+unfolding all-good holds-good scenarios listing overtaking not-yet sum-of put sum bits incremented cleared has insert join names-after tally any latest beyond applied sent made next-item rest-items handed count-item holds clear-names after-accepted after-step after-steps ledger-value ledger-holders count-message present-entries clear-message read-value read-holders cleared-words taken-words shown number-at bytes-of header-bytes increment-bytes entry-bytes entries-bytes clear-bytes message-bytes header-in-range increment-in-range amount-in-range clear-in-range entry-in-range entries-in-range unused in-range increment-message entries-at called-length message-at reads front-length form.clear-message fresh-words sizes-in-range right replica-fits all-below any-below bit with-bit count-below entry-well-formed card-well-formed row-well-formed tables-well-formed reading read-on send-with words-after count-on clear-on content all-entries cards-known increment-plausible entry-plausible plausible take-with part put-part waiting-part end-of action-of amount-fits call-of run.made delivered acted state-after answers-of numbers-in fresh-replicas chassis-fits sizes-right run-on ledger-action ledger-of ledger-reading
 scenarios-hold = refl
 
 -- "A count by 0 or by 65,536, a clear and a delivery with amount 1: 16. A clear with amount 1 of a counter that there is not: 3." On a chassis of two cards and one counter: counts by 0, by 65,536 and by 65,535; a clear, a delivery and a read and
@@ -170,5 +170,5 @@ amounts =
     ∷ step-by 2 0 9 1 ∷ step-by 1 0 9 0 ∷ step-by 3 1 1 1 ∷ step-by 1 2 0 0 ∷ step 3 1 0 ∷ step-by 3 1 0 1 ∷ []
 
 pub amounts-refused : numbers-in (answers-of 2 1 L amounts (fresh-state 2 1 L (replicate (2 * L) 1))) ≡ 16 ∷ 16 ∷ 0 ∷ 16 ∷ 16 ∷ 16 ∷ 3 ∷ 3 ∷ 7 ∷ 7 ∷ 0 ∷ 16 ∷ []
-unfolding put sum bits incremented cleared has insert join names-after tally any latest beyond applied sent made next-item rest-items handed count-item holds clear-names after-accepted after-step after-steps ledger-value ledger-holders count-message present-entries clear-message read-value read-holders cleared-words taken-words shown number-at bytes-of header-bytes increment-bytes entry-bytes entries-bytes clear-bytes message-bytes header-in-range increment-in-range amount-in-range clear-in-range entry-in-range entries-in-range unused in-range increment-message entries-at called-length message-at reads front-length form.clear-message fresh-words sizes-in-range right replica-fits all-below count-below entry-well-formed card-well-formed row-well-formed tables-well-formed reading read-on send-with words-after count-on clear-on content all-entries cards-known increment-plausible entry-plausible plausible take-with part put-part waiting-part end-of action-of amount-fits call-of run.made delivered acted state-after answers-of numbers-in fresh-replicas chassis-fits sizes-right run-on ledger-action ledger-of ledger-reading
+unfolding put sum bits incremented cleared has insert join names-after tally any latest beyond applied sent made next-item rest-items handed count-item holds clear-names after-accepted after-step after-steps ledger-value ledger-holders count-message present-entries clear-message read-value read-holders cleared-words taken-words shown number-at bytes-of header-bytes increment-bytes entry-bytes entries-bytes clear-bytes message-bytes header-in-range increment-in-range amount-in-range clear-in-range entry-in-range entries-in-range unused in-range increment-message entries-at called-length message-at reads front-length form.clear-message fresh-words sizes-in-range right replica-fits all-below any-below bit with-bit count-below entry-well-formed card-well-formed row-well-formed tables-well-formed reading read-on send-with words-after count-on clear-on content all-entries cards-known increment-plausible entry-plausible plausible take-with part put-part waiting-part end-of action-of amount-fits call-of run.made delivered acted state-after answers-of numbers-in fresh-replicas chassis-fits sizes-right run-on ledger-action ledger-of ledger-reading
 amounts-refused = refl

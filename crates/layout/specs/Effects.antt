@@ -1,7 +1,7 @@
 -- LAWS. What a message that is received does to the words, from the parts that effect.rt computes one after the other.
 use Prim.Native.Nat.{ℕ, _+_, _≤_, _<_}
 use mathlib.Core.Path.{_≡_, refl, ap, _∙_}
-use mathlib.Core.Bool.{Bool}
+use mathlib.Core.Bool.{Bool, cond}
 use mathlib.Core.List.{List}
 use native.Mathlib.Numerals.{add-one}
 use native.Mathlib.Omega.{arith}
@@ -13,7 +13,7 @@ use Rattle.protocol.specs.Entry.{incremented, cleared}
 use Rattle.protocol.specs.Chassis.{Message, increment, clearing, counter-of}
 use Rattle.protocol.specs.StoreLaws.{CardsBelow, cleared-words, taken-words, cleared-C, cleared-N}
 use Rattle.wire.specs.Message.{no-entry}
-use Rattle.replica_model.specs.Layout.{cards, counters, C-of, N-of, entry-of, set-C, set-N, set-entry, layout}
+use Rattle.replica_model.specs.Layout.{cards, counters, C-of, N-of, entry-of, set-C, set-N, set-entry, mark, layout}
 use Rattle.replica_model.specs.LayoutLaws.{lawful, set-C-same, set-entry-length}
 use Rattle.replica_model.specs.Calls.{words-after}
 use Rattle.layout.specs.WordsLaws.{RowInside, row-entry}
@@ -22,22 +22,24 @@ use Rattle.layout.specs.WordsLaws.{RowInside, row-entry}
 abbrev pub last-word : ℕ
 last-word = 18446744073709551615
 
--- what an effector asks: a row inside the words, the message's card in it, and room to count one more message of that card
+-- what an effector asks: a row inside the words, and the message's card in it
 pub record Receives (b : List ℕ) (r q j : ℕ) : Type 0 where
   pub row : RowInside b r q
   pub card : j < r
-  pub N-room : N-of r b j < last-word
 
-pub receives-entry : (b : List ℕ) (r q j j′ : ℕ) (e : Entry) → j′ < r → Receives b r q j → Receives (set-entry r q j′ e b) r q j
+receives-entry : (b : List ℕ) (r q j j′ : ℕ) (e : Entry) → j′ < r → Receives b r q j → Receives (set-entry r q j′ e b) r q j
 receives-entry b r q j j′ e l h = record {
   row = row-entry b r q (h .row) j′ e l;
   card = h .card;
-  N-room = rw (lawful r (counters b) .N-entry q j′ e b l j (h .card)) (h .N-room);
 }
 
 -- one message more of card j, from which `received` increments had come, and w more
 abbrev pub with-message : ℕ → ℕ → ℕ → ℕ → List ℕ → List ℕ
 with-message r j received w b = set-N r j (N-of r b j + 1) (set-C j (received + w) b)
+
+-- an entry that has been put, and the row's bit by a look at all of them, where it is not left for later
+abbrev pub marked-if : Bool → ℕ → ℕ → List ℕ → List ℕ
+marked-if t r q b = cond t (mark r q b) b
 
 -- one entry of a clear
 abbrev pub entry-cleared : ℕ → ℕ → ClearEntry → List ℕ → List ℕ
@@ -49,23 +51,25 @@ after-is b r s m e = ap (λ (x : ℕ). taken-words (layout x (counters b)) (coun
 
 module _ (b : List ℕ) (r q j : ℕ) (h : Receives b r q j) where
   pub increment-taken : (w p : ℕ) (start : Bool)
-      → with-message r j (C-of b j) w (set-entry r q j (incremented w p start (C-of b j) (entry-of r b q j)) b) ≡ words-after j (increment q w p start) b
+      → with-message r j (C-of b j) w (mark r q (set-entry r q j (incremented w p start (C-of b j) (entry-of r b q j)) b)) ≡ words-after j (increment q w p start) b
   unfolding taken-words
   increment-taken w p start =
-      rw (lawful r (counters b) .N-entry q j (incremented w p start (C-of b j) (entry-of r b q j)) b (h .card) j (h .card), add-one (N-of r b j))
+      let law = lawful r (counters b) in
+      let e = incremented w p start (C-of b j) (entry-of r b q j) in
+      rw (law .N-mark q (set-entry r q j e b) j, law .N-entry q j e b (h .card) j (h .card), add-one (N-of r b j))
       (after-is b r j (increment q w p start) (h .row .first))
 
   -- a clear, when its entries have been taken: it brings no increment, so C stays
   pub clear-taken : (es : List ClearEntry) (b′ : List ℕ) → CardsBelow r es → b′ ≡ cleared-words (layout r (counters b)) q es b
-      → with-message r j (C-of b j) 0 b′ ≡ words-after j (clearing q es) b
+      → with-message r j (C-of b j) 0 (mark r q b′) ≡ words-after j (clearing q es) b
   unfolding taken-words
   clear-taken es b′ on e =
       let S = layout r (counters b) in
       let law = lawful r (counters b) in
-      let C-stays : C-of b′ j ≡ C-of b j = rw e (cleared-C r (counters b) S law q es b on j (h .card)) in
-      let N-stays : N-of r b′ j ≡ N-of r b j = rw e (cleared-N r (counters b) S law q es b on j (h .card)) in
-      let same : C-of b j + 0 ≡ C-of b′ j = omega (arith, C-stays) in
-      rw (same, set-C-same j b′, N-stays, add-one (N-of r b j), e) (after-is b r j (clearing q es) (h .row .first))
+      let C-stays : C-of (mark r q b′) j ≡ C-of b j = law .C-mark q b′ j ∙ rw e (cleared-C r (counters b) S law q es b on j (h .card)) in
+      let N-stays : N-of r (mark r q b′) j ≡ N-of r b j = law .N-mark q b′ j ∙ rw e (cleared-N r (counters b) S law q es b on j (h .card)) in
+      let same : C-of b j + 0 ≡ C-of (mark r q b′) j = omega (arith, C-stays) in
+      rw (same, set-C-same j (mark r q b′), N-stays, add-one (N-of r b j), e) (after-is b r j (clearing q es) (h .row .first))
 
 -- ---- the loop over a clear's entries
 

@@ -3,20 +3,24 @@
 use protocol::Entry;
 ghost use mathlib.Core.Path.{_≡_};
 ghost use mathlib.Core.Bool.{true, false};
-ghost use Prim.Native.Nat.{_+_, _*_, _≤_, _<_};
+ghost use Prim.Native.Nat.{_+_, _*_, _^_, _≤_, _<_};
 ghost use lib.ListN.{length};
-ghost use lib.Dec.{leb};
+ghost use lib.Dec.{leb, ltb};
 ghost use Rattle.protocol.specs.Limits.{most-cards, most-counters};
 ghost use Rattle.protocol.specs.Functions.{all-below};
 ghost use Rattle.protocol.specs.Acceptance.{entry-well-formed};
-ghost use Rattle.replica_model.specs.Layout.{cards, counters, own-card, replica-length, at-entry, C-of, N-of, entry-from, entry-of, set-C, set-N, set-three, set-entry};
+ghost use Rattle.protocol.specs.Entry.{absent, has-entry};
+ghost use Rattle.replica_model.specs.Layout.{cards, counters, own-card, replica-length, at-entry, active-word, active-of, C-of, N-of, entry-from, entry-of, set-C, set-N, set-three, set-entry, set-active, mark};
 ghost use Rattle.replica_model.specs.Calls.{sizes-in-range, replica-fits, right, in-place, row-well-formed};
 ghost use Rattle.replica_model.specs.ClaimTerms.{Right};
 ghost use Rattle.layout.specs.WordsLaws.{HeadInside, CInside, NInside, RowInside, with-head};
-ghost use Rattle.layout.specs.RowCheck.{Ordered, joined};
+ghost use Rattle.layout.specs.RowCheck.{Ordered, joined, Checked};
 
-// The words before C: r, k and the own card.
-pub const HEAD: usize = 3;
+// The words before C: r, k, the own card and the active counters.
+pub const HEAD: usize = 4;
+
+// Which of them has the active counters, a bit each.
+const ACTIVE: usize = 3;
 
 // The words of an entry: p, n and c.
 pub const ENTRY: usize = 3;
@@ -85,21 +89,67 @@ pub fn fits(len: usize, r: u64, k: u64, own: u64) -> bool
     false
 }
 
+// Whether no bit is one for a counter that is not there: at most one is left behind the first k - 1. So nothing is shifted by 64.
+// Ruled out: a bit at k (must-fail/bit_of_no_counter).
+fn is_low(active: u64, k: usize) -> bool
+    requires { ⌜ (1 ≤ k) × (k ≤ most-counters) ⌝ }
+    ensures { λ a. ⌜ a ≡ ltb active (2 ^ k) ⌝ }
+{
+    active >> (k - 1) < 2
+}
+
 pub fn is_right(words: &[u64]) -> bool
     ensures { λ a. ⌜ a ≡ right (now (words .entry)) ⌝ }
 {
     if words.len() < HEAD {
         return false;
     }
-    fits(words.len(), words[0], words[1], words[2])
+    if !fits(words.len(), words[0], words[1], words[2]) {
+        return false;
+    }
+    is_low(words[ACTIVE], index(words[1]))
 }
 
-// Whether it is the replica of card `own` of r cards and k counters, as far as its first three words say.
+// Whether it is the replica of card `own` of r cards and k counters, as far as its first four words say.
 pub fn is_in_place(words: &[u64], r: usize, k: usize, own: usize) -> bool
-    requires { ⌜ HeadInside (now words) ⌝ }
+    requires { ⌜ HeadInside (now words) × (1 ≤ k) × (k ≤ most-counters) ⌝ }
     ensures { λ a. ⌜ a ≡ in-place r k own (now (words .entry)) ⌝ }
 {
-    (words[0] == r as u64) & (words[1] == k as u64) & (words[2] == own as u64)
+    (words[0] == r as u64)
+        & (words[1] == k as u64)
+        & (words[2] == own as u64)
+        & is_low(words[ACTIVE], k)
+}
+
+// The active counters, and whether counter q is one.
+
+pub fn active_counters(words: &[u64]) -> u64
+    requires { ⌜ HeadInside (now words) ⌝ }
+    ensures { λ a. ⌜ a ≡ active-word (now (words .entry)) ⌝ }
+{
+    words[ACTIVE]
+}
+
+fn is_active(words: &[u64], q: usize) -> bool
+    requires { ⌜ HeadInside (now words) × (q < most-counters) ⌝ }
+    ensures { λ a. ⌜ a ≡ active-of (now (words .entry)) q ⌝ }
+{
+    (words[ACTIVE] >> q) & 1 == 1
+}
+
+// Ruled out: another counter's bit set (must-fail/marks_counter_0_too).
+fn set_active(words: &mut [u64], q: usize)
+    requires { ⌜ HeadInside (now words) × (q < most-counters) ⌝ }
+    ensures { λ _. ⌜ now (words .exit) ≡ set-active q true (now (words .entry)) ⌝ }
+{
+    words[ACTIVE] = words[ACTIVE] | (1u64 << q);
+}
+
+pub fn set_quiet(words: &mut [u64], q: usize)
+    requires { ⌜ HeadInside (now words) × (q < most-counters) ⌝ }
+    ensures { λ _. ⌜ now (words .exit) ≡ set-active q false (now (words .entry)) ⌝ }
+{
+    words[ACTIVE] = (words[ACTIVE] | (1u64 << q)) - (1u64 << q);
 }
 
 // C[j] and N[j].
@@ -176,6 +226,60 @@ pub fn put_entry(words: &mut [u64], r: usize, q: usize, j: usize, e: Entry)
     put_three(words, at, e);
 }
 
+// Three zeros, from the last on: where one branch puts an entry and another takes it away, stores in one order would be made one for both, of numbers that the branch has
+// chosen, and zeros no longer be two stores.
+fn clear_three(words: &mut [u64], at: usize)
+    requires { ⌜ at + 2 < length (now words) ⌝ }
+    ensures { λ _. ⌜ now (words .exit) ≡ set-three (now (words .entry)) at 0 0 0 ⌝ }
+{
+    words[at + 2] = 0;
+    words[at + 1] = 0;
+    words[at] = 0;
+}
+
+pub fn put_absent(words: &mut [u64], r: usize, q: usize, j: usize)
+    requires { ⌜ RowInside (now words) r q × (j < r) ⌝ }
+    ensures { λ _. ⌜ now (words .exit) ≡ set-entry r q j absent (now (words .entry)) ⌝ }
+{
+    let at = entry_place(r, q, j);
+    clear_three(words, at);
+}
+
+// An entry put that is present, and so the row's bit with it.
+pub fn put_present(words: &mut [u64], r: usize, q: usize, j: usize, e: Entry)
+    requires { ⌜ RowInside (now words) r q × (j < r) × (0 < e .p) ⌝ }
+    ensures { λ _. ⌜ now (words .exit) ≡ mark r q (set-entry r q j e (now (words .entry))) ⌝ }
+{
+    put_entry(words, r, q, j, e);
+    set_active(words, q);
+}
+
+// Whether row q has an entry: every p, joined bit by bit.
+fn has_entry(words: &[u64], r: usize, q: usize) -> bool
+    requires { ⌜ RowInside (now words) r q ⌝ }
+    ensures { λ a. ⌜ a ≡ has-entry r (entry-of r (now (words .entry)) q) ⌝ }
+{
+    let mut all: u64 = 0;
+    let mut j: usize = 0;
+    while j < r {
+        all = all | entry_at(words, r, q, j).p;
+        j += 1;
+    }
+    0 < all
+}
+
+// The row's bit, by a look at all of its entries.
+pub fn mark(words: &mut [u64], r: usize, q: usize)
+    requires { ⌜ RowInside (now words) r q ⌝ }
+    ensures { λ _. ⌜ now (words .exit) ≡ mark r q (now (words .entry)) ⌝ }
+{
+    if has_entry(words, r, q) {
+        set_active(words, q);
+        return;
+    }
+    set_quiet(words, q);
+}
+
 // Whether a row is well-formed (SPECIFICATION 3), in tests that a row which is never fails: what is to be at most MAX is joined bit by bit and
 // compared once, behind the loop, and each other test returns by itself.
 
@@ -211,7 +315,7 @@ pub fn counts_joined(words: &[u64], r: usize) -> u64
 }
 
 // The own entry's c is at most the own C.
-pub fn is_own_entry_counted(words: &[u64], r: usize, q: usize) -> bool
+fn is_own_entry_counted(words: &[u64], r: usize, q: usize) -> bool
     requires { ⌜ RowInside (now words) r q ⌝ }
     ensures { λ a. ⌜ a ≡ leb (entry-of r (now (words .entry)) q (own-card (now (words .entry))) .c) (C-of (now (words .entry)) (own-card (now (words .entry)))) ⌝ }
 {
@@ -220,13 +324,31 @@ pub fn is_own_entry_counted(words: &[u64], r: usize, q: usize) -> bool
     e.c <= increments_at(words, own)
 }
 
+// What is left to ask of row q behind its entries: `counts` is C and N joined, `high` every c. An entry that is ordered is present where its c is not 0, so
+// `high` says what the bit has to.
+// Ruled out: numbers of MAX refused (must-fail/MAX_refused), C asked to be within N, and a row taken for empty whose entry has a c of 1 (must-fail/c_of_1_not_seen).
+pub fn is_rest_well_formed(words: &[u64], r: usize, q: usize, counts: u64, high: u64) -> bool
+    requires { ⌜ RowInside (now words) r q × (counts ≡ joined (2 * r) (now words)) × Checked (now words) r q r high ⌝ }
+    ensures { λ a. ⌜ a ≡ row-well-formed (now (words .entry)) q ⌝ }
+{
+    if protocol::MAX < (counts | high) {
+        return false;
+    }
+    if !is_own_entry_counted(words, r, q) {
+        return false;
+    }
+    if 0 < high {
+        return is_active(words, q);
+    }
+    !is_active(words, q)
+}
+
 // Whether row q is well-formed; `counts` is C and N joined.
-// Ruled out: numbers of MAX refused (must-fail/MAX_refused), and C asked to be within N.
 fn is_row_well_formed_beside(words: &[u64], r: usize, q: usize, counts: u64) -> bool
     requires { ⌜ RowInside (now words) r q × (counts ≡ joined (2 * r) (now words)) ⌝ }
     ensures { λ a. ⌜ a ≡ row-well-formed (now (words .entry)) q ⌝ }
 {
-    let mut high = counts;
+    let mut high: u64 = 0;
     let mut j: usize = 0;
     while j < r {
         let e = entry_at(words, r, q, j);
@@ -236,10 +358,7 @@ fn is_row_well_formed_beside(words: &[u64], r: usize, q: usize, counts: u64) -> 
         high = high | e.c;
         j += 1;
     }
-    if protocol::MAX < high {
-        return false;
-    }
-    is_own_entry_counted(words, r, q)
+    is_rest_well_formed(words, r, q, counts, high)
 }
 
 pub fn is_row_well_formed(words: &[u64], r: usize, q: usize) -> bool

@@ -1,5 +1,5 @@
 -- LAWS. What the functions of this crate are lent and what they find in it, as records.
-use Prim.Native.Nat.{ℕ, suc, _*_, _≤_, _<_}
+use Prim.Native.Nat.{ℕ, suc, _*_, _≤_, _^_, _<_}
 use mathlib.Core.Path.{_≡_}
 use mathlib.Core.Bool.{Bool, true, false, cond, _&&_}
 use mathlib.Core.List.{List}
@@ -8,7 +8,7 @@ use lib.ListN.{length, take, getD}
 use Rattle.protocol.specs.Limits.{most-cards}
 use Rattle.protocol.specs.Functions.{all-below}
 use Rattle.wire.specs.Message.{version-2, front-length}
-use Rattle.replica_model.specs.Layout.{replica-length, N-of}
+use Rattle.replica_model.specs.Layout.{replica-length, N-of, active-word}
 use Rattle.replica_model.specs.ClaimTerms as terms
 use Rattle.chassis_model.specs.ListParts.{part}
 use Rattle.chassis_model.specs.Log.{waiting-part, end-of}
@@ -33,10 +33,11 @@ pub record Lent (sizes : Sizes) (words logs : List ℕ) : Type 0 where
   pub words-fit : WordsFit sizes words
   pub logs-long : length logs ≡ sizes .cards * sizes .«log_bytes»
 
--- every replica is in its place
+-- every replica is in its place, with no bit at k or above
 pub record InPlace (sizes : Sizes) (words : List ℕ) : Type 0 where
   pub sized : terms.Sizes (sizes .cards) (sizes .counters)
   pub heads : (i : ℕ) → i < sizes .cards → Heads (sizes .cards) (sizes .counters) i (replica-in sizes words i)
+  pub low : (i : ℕ) → i < sizes .cards → active-word (replica-in sizes words i) < 2 ^ sizes .counters
 
 -- ---- a walk along a log
 

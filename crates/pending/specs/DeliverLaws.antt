@@ -60,7 +60,8 @@ module _ (lent : Sizes) (words logs : List ℕ) (f : Fitting lent words logs) wh
     sized = sized;
     heads = λ i hi.
         let h = simp tests at (below-facts (lent .cards) (λ i. in-place (lent .cards) (lent .counters) i (replica-in lent words i)) placed i hi) in
-        record { cards-are = h .0 .0; counters-are = h .0 .1; own-is = h .1 };
+        record { cards-are = h .0 .0 .0; counters-are = h .0 .0 .1; own-is = h .0 .1 };
+    low = λ i hi. (simp tests at (below-facts (lent .cards) (λ i. in-place (lent .cards) (lent .counters) i (replica-in lent words i)) placed i hi)) .1;
   }
 
   pub pump-given : are-placed lent words ≡ true → are-formed lent words ≡ true → (ok : Bool) (places : List ℕ) → AllFound lent words logs ok places → ok ≡ true

@@ -1,4 +1,4 @@
--- DEFINITIONS. What a card asks before it accepts, as tests that compute: a well-formed row (refusal 2), the cards of a message (7) and a plausible message
+-- DEFINITIONS. What a card asks before it accepts, as tests that compute: a well-formed row but for its bit (refusal 2), the cards of a message (7) and a plausible message
 -- (10). They are over tables (C, N and a row of entries, each by card) and Algorithm 1's message, whatever words hold the tables and whatever bytes the message.
 use Prim.Native.Nat.{ℕ, _+_}
 use mathlib.Core.Bool.{Bool, true, not, cond, _&&_, _||_}

@@ -5,6 +5,7 @@
 use Prim.Native.Nat.{ℕ, _+_, _-_, max}
 use mathlib.Core.Bool.{Bool, not, cond, _&&_, _||_}
 use lib.Dec.{ltb, leb, eqb}
+use Rattle.protocol.specs.Functions.{any-below}
 pub use Rattle.protocol.specs.declared.Entry.{Entry}
 
 -- "An absent entry is (0,0,0)."
@@ -14,6 +15,10 @@ absent = record { p = 0; n = 0; c = 0 }
 -- In a well-formed row p is 0 only where all three numbers are, so the test of p is enough.
 abbrev pub present : Entry → Bool
 present e = ltb 0 (e .p)
+
+-- does a row have an entry, for any card below r?
+abbrev pub has-entry : ℕ → (ℕ → Entry) → Bool
+has-entry r row = any-below r (λ j. present (row j))
 
 -- "max is taken field by field." (line 21)
 abbrev pub larger : Entry → Entry → Entry

@@ -46,6 +46,7 @@ pub mod Cases
 pub mod Tests
 pub mod ChecksLaws
 pub mod Tables
+pub mod BitLaws
 pub mod Lists
 pub mod StoredLists
 -- Algorithm 1 in its two forms.

@@ -1,4 +1,4 @@
--- LAWS. No refusal 2 and no refusal 10 in a run: whatever waits is plausible to its receiver, and every row is well-formed. Both follow from
+-- LAWS. No refusal 2 and no refusal 10 in a run: whatever waits is plausible to its receiver, and every row is well-formed (but for its bit, which tables do not have). Both follow from
 -- the invariant (`Invariant`) and from each card's own C and N being within the bound (`OwnBounded`), so a run that is followed step by step has them too.
 use Prim.Native.Nat.{ℕ, suc, _+_, _≤_, _<_}
 use mathlib.Core.Path.{_≡_, refl, ap, _∙_}

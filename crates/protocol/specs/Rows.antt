@@ -1,4 +1,4 @@
--- DEFINITIONS. What the tests of `Acceptance` say in plain numbers: a well-formed row (refusal 2) and a plausible message (refusal 10).
+-- DEFINITIONS. What the tests of `Acceptance` say in plain numbers: a well-formed row but for its bit (refusal 2) and a plausible message (refusal 10).
 -- `most` is MAX in the specification.
 use Prim.Native.Nat.{ℕ, _+_, _≤_, _<_}
 use mathlib.Core.Path.{_≡_}

@@ -2,11 +2,13 @@
 -- more head words, or with rows found by key, is another store and no other proof. A row is addressed by its index, whatever counter a message names.
 use Prim.Native.Nat.{ℕ, suc, _+_, _<_}
 use mathlib.Core.Path.{_≡_}
+use mathlib.Core.Bool.{Bool}
 use mathlib.Core.List.{List, [], _∷_}
-use Rattle.protocol.specs.Entry.{Entry, incremented, cleared}
+use Rattle.protocol.specs.Entry.{Entry, has-entry, incremented, cleared}
 use Rattle.protocol.specs.Chassis.{Message, increment, clearing, ClearEntry, Replica}
 
--- Where a replica is kept: what its words are and when they are as many as it takes, its head (what is written once), accessors and setters.
+-- Where a replica is kept: what its words are and when they are such as it takes, its head (what is written once), accessors and setters; and for each row a
+-- bit that says whether it has an entry, with `mark`, which sets it by the row's entries.
 pub record Store : Type 1 where
   pub Words : Type 0
   pub Fits : Words → Type 0
@@ -16,12 +18,14 @@ pub record Store : Type 1 where
   pub entry : Words → ℕ → ℕ → Entry
   pub C : Words → ℕ → ℕ
   pub N : Words → ℕ → ℕ
+  pub active : Words → ℕ → Bool
   pub set-entry : ℕ → ℕ → Entry → Words → Words
   pub set-C : ℕ → ℕ → Words → Words
   pub set-N : ℕ → ℕ → Words → Words
+  pub mark : ℕ → Words → Words
 
 module _ (S : Store) where
-  -- Taking a message of card s in row q, over the accessors.
+  -- Taking a message of card s in row q, over the accessors. The row's bit then follows its entries.
   unfoldable pub cleared-words : ℕ → List ClearEntry → S .Words → S .Words
   cleared-words q [] ws = ws
   cleared-words q (t ∷ ts) ws =
@@ -30,8 +34,8 @@ module _ (S : Store) where
   unfoldable pub taken-words : ℕ → ℕ → Message → S .Words → S .Words
   taken-words q s (increment c w p start) ws =
       S .set-N s (suc (S .N ws s))
-      (S .set-C s (S .C ws s + w) (S .set-entry q s (incremented w p start (S .C ws s) (S .entry ws q s)) ws))
-  taken-words q s (clearing c ts) ws = S .set-N s (suc (S .N ws s)) (cleared-words q ts ws)
+      (S .set-C s (S .C ws s + w) (S .mark q (S .set-entry q s (incremented w p start (S .C ws s) (S .entry ws q s)) ws)))
+  taken-words q s (clearing c ts) ws = S .set-N s (suc (S .N ws s)) (S .mark q (cleared-words q ts ws))
 
   -- the replica that the words show
   unfoldable pub shown : S .Words → Replica
@@ -43,3 +47,7 @@ module _ (S : Store) where
     pub entries : (q j : ℕ) → q < k → j < r → S .entry ws q j ≡ b .entry q j
     pub Cs : (j : ℕ) → j < r → S .C ws j ≡ b .C j
     pub Ns : (j : ℕ) → j < r → S .N ws j ≡ b .N j
+
+  -- row q's bit says whether it has an entry, of the cards below r
+  abbrev pub Marked : ℕ → S .Words → ℕ → Type 0
+  Marked r ws q = S .active ws q ≡ has-entry r (S .entry ws q)

@@ -1,17 +1,18 @@
 -- LAWS. Replicas kept in words (`Store`): taking a message, written over a store's accessors, does to the words what `Chassis` does to the
 -- replica that the words show, and count, clear and read see that replica.
 use Prim.Native.Nat.{ℕ, zero, suc, _+_, _-_, _^_, _<_}
-use mathlib.Core.Path.{_≡_, refl, ap, _∙_}
+use mathlib.Core.Path.{_≡_, refl, sym, ap, _∙_}
 use mathlib.Core.Bool.{cond}
 use mathlib.Core.List.{List, [], _∷_}
 use native.Mathlib.Omega.{arith}
 use Rattle.protocol.specs.Cases.{by-place}
 use Rattle.protocol.specs.Tables.{put, put-same, put-other, put-at, put-same-row, put-other-row, sum-cong, bits}
-use Rattle.protocol.specs.Entry.{Entry, present, cleared}
+use Rattle.protocol.specs.Entry.{Entry, present, has-entry, cleared}
 use Rattle.protocol.specs.Chassis.{Message, increment, clearing, ClearEntry, Replica, cleared-row, taken, count-message, present-entries, clear-message, read-value, read-holders, counter-of}
 use Rattle.protocol.specs.Acceptance.{entries-of}
+use Rattle.protocol.specs.BitLaws.{any-cong}
 unfoldable pub use Rattle.protocol.specs.Store.{cleared-words, taken-words, shown}
-pub use Rattle.protocol.specs.Store.{Store, Shows}
+pub use Rattle.protocol.specs.Store.{Store, Shows, Marked}
 
 -- ---- messages within the limits
 
@@ -29,10 +30,12 @@ pub record Lawful (r k : ℕ) (S : Store) : Type 0 where
   pub fits-entry : (q j : ℕ) (e : Entry) (ws : S .Words) → S .Fits ws → S .Fits (S .set-entry q j e ws)
   pub fits-C : (j v : ℕ) (ws : S .Words) → S .Fits ws → S .Fits (S .set-C j v ws)
   pub fits-N : (j v : ℕ) (ws : S .Words) → S .Fits ws → S .Fits (S .set-N j v ws)
+  pub fits-mark : (q : ℕ) (ws : S .Words) → q < k → S .Fits ws → S .Fits (S .mark q ws)
   -- no setter moves the head
   pub head-entry : (q j : ℕ) (e : Entry) (ws : S .Words) → j < r → S .head (S .set-entry q j e ws) ≡ S .head ws
   pub head-C : (j v : ℕ) (ws : S .Words) → S .head (S .set-C j v ws) ≡ S .head ws
   pub head-N : (j v : ℕ) (ws : S .Words) → S .head (S .set-N j v ws) ≡ S .head ws
+  pub head-mark : (q : ℕ) (ws : S .Words) → S .head (S .mark q ws) ≡ S .head ws
   -- what each accessor finds after each setter, within the limits
   pub entry-entry : (q j : ℕ) (e : Entry) (ws : S .Words) → S .Fits ws → q < k → j < r → (q′ j′ : ℕ) → q′ < k → j′ < r
       → S .entry (S .set-entry q j e ws) q′ j′ ≡ put q (put j e (S .entry ws q)) (S .entry ws) q′ j′
@@ -44,6 +47,14 @@ pub record Lawful (r k : ℕ) (S : Store) : Type 0 where
   pub entry-N : (j v : ℕ) (ws : S .Words) → j < r → (q′ j′ : ℕ) → S .entry (S .set-N j v ws) q′ j′ ≡ S .entry ws q′ j′
   pub C-N : (j v : ℕ) (ws : S .Words) → j < r → (j′ : ℕ) → j′ < r → S .C (S .set-N j v ws) j′ ≡ S .C ws j′
   pub N-N : (j v : ℕ) (ws : S .Words) → S .Fits ws → j < r → (j′ : ℕ) → j′ < r → S .N (S .set-N j v ws) j′ ≡ put j v (S .N ws) j′
+  pub entry-mark : (q : ℕ) (ws : S .Words) (q′ j′ : ℕ) → S .entry (S .mark q ws) q′ j′ ≡ S .entry ws q′ j′
+  pub C-mark : (q : ℕ) (ws : S .Words) (j′ : ℕ) → S .C (S .mark q ws) j′ ≡ S .C ws j′
+  pub N-mark : (q : ℕ) (ws : S .Words) (j′ : ℕ) → S .N (S .mark q ws) j′ ≡ S .N ws j′
+  -- a row's bit is set by its entries, and by `mark` alone
+  pub active-mark : (q : ℕ) (ws : S .Words) → S .Fits ws → q < k → (q′ : ℕ) → S .active (S .mark q ws) q′ ≡ put q (has-entry r (S .entry ws q)) (S .active ws) q′
+  pub active-entry : (q j : ℕ) (e : Entry) (ws : S .Words) (q′ : ℕ) → S .active (S .set-entry q j e ws) q′ ≡ S .active ws q′
+  pub active-C : (j v : ℕ) (ws : S .Words) (q′ : ℕ) → S .active (S .set-C j v ws) q′ ≡ S .active ws q′
+  pub active-N : (j v : ℕ) (ws : S .Words) (q′ : ℕ) → S .active (S .set-N j v ws) q′ ≡ S .active ws q′
 
 -- within the limits, two tables agree when one place of both is changed alike
 put-alike {ℓ} : {A : Type ℓ} (n s : ℕ) (v w : A) (f g : ℕ → A) → v ≡ w → ((j : ℕ) → j < n → f j ≡ g j) → (j : ℕ) → j < n → put s v f j ≡ put s w g j
@@ -83,6 +94,14 @@ module _ (r k : ℕ) (S : Store) (law : Lawful r k S) where
     entries = λ q′ j′ a c. law .entry-N j v ws hj q′ j′ ∙ h .entries q′ j′ a c;
     Cs = λ j′ c. law .C-N j v ws hj j′ c ∙ h .Cs j′ c;
     Ns = λ j′ c. law .N-N j v ws (h .fits) hj j′ c ∙ put-alike r j v v′ (S .N ws) (b .N) e (h .Ns) j′ c;
+  }
+
+  marked-shows : (q : ℕ) (ws : S .Words) (b : Replica) → q < k → Shows S r k ws b → Shows S r k (S .mark q ws) b
+  marked-shows q ws b hq h = record {
+    fits = law .fits-mark q ws hq (h .fits);
+    entries = λ q′ j′ a c. law .entry-mark q ws q′ j′ ∙ h .entries q′ j′ a c;
+    Cs = λ j′ c. law .C-mark q ws j′ ∙ h .Cs j′ c;
+    Ns = λ j′ c. law .N-mark q ws j′ ∙ h .Ns j′ c;
   }
 
   shows-alike : (ws : S .Words) (b b′ : Replica) → ((q j : ℕ) → b .entry q j ≡ b′ .entry q j) → ((j : ℕ) → b .C j ≡ b′ .C j) → ((j : ℕ) → b .N j ≡ b′ .N j)
@@ -131,8 +150,8 @@ module _ (r k : ℕ) (S : Store) (law : Lawful r k S) where
 
   pub taken-head : (q s : ℕ) (m : Message) (ws : S .Words) → s < r → CardsBelow r (entries-of m) → S .head (taken-words S q s m ws) ≡ S .head ws
   unfolding taken-words
-  taken-head q s (increment k w p start) ws hs on = law .head-N s _ _ ∙ law .head-C s _ _ ∙ law .head-entry q s _ ws hs
-  taken-head q s (clearing k ts) ws hs on = law .head-N s _ _ ∙ cleared-head q ts ws on
+  taken-head q s (increment k w p start) ws hs on = law .head-N s _ _ ∙ law .head-C s _ _ ∙ law .head-mark q _ ∙ law .head-entry q s _ ws hs
+  taken-head q s (clearing k ts) ws hs on = law .head-N s _ _ ∙ law .head-mark q _ ∙ cleared-head q ts ws on
 
   -- TAKE, on the words, in the row of the message's counter
   pub taken-shows : (s : ℕ) (m : Message) (ws : S .Words) (b : Replica) → s < r → InLimits r k m → Shows S r k ws b
@@ -141,9 +160,46 @@ module _ (r k : ℕ) (S : Store) (law : Lawful r k S) where
   taken-shows s (increment q w p start) ws b hs hq h =
       N-set s (suc (S .N ws s)) (suc (b .N s)) _ _ hs (ap suc (h .Ns s hs))
       (C-set s (S .C ws s + w) (b .C s + w) _ _ hs (ap (λ (x : ℕ). x + w) (h .Cs s hs))
-      (entry-set q s _ _ ws b hq hs (rw (h .Cs s hs, h .entries q s hq hs)) h))
+      (marked-shows q _ _ hq (entry-set q s _ _ ws b hq hs (rw (h .Cs s hs, h .entries q s hq hs)) h)))
   taken-shows s (clearing q ts) ws b hs (hq, on) h =
-      N-set s (suc (S .N ws s)) (suc (b .N s)) _ _ hs (ap suc (h .Ns s hs)) (cleared-shows q ts ws b hq on h)
+      N-set s (suc (S .N ws s)) (suc (b .N s)) _ _ hs (ap suc (h .Ns s hs)) (marked-shows q _ _ hq (cleared-shows q ts ws b hq on h))
+
+  -- ---- the bits of the rows
+
+  cleared-fits : (q : ℕ) (ts : List ClearEntry) (ws : S .Words) → S .Fits ws → S .Fits (cleared-words S q ts ws)
+  unfolding cleared-words
+  cleared-fits q [] ws h = h
+  cleared-fits q (t ∷ ts) ws h = cleared-fits q ts _ (law .fits-entry q (t .card) _ ws h)
+
+  cleared-active : (q : ℕ) (ts : List ClearEntry) (ws : S .Words) (q′ : ℕ) → S .active (cleared-words S q ts ws) q′ ≡ S .active ws q′
+  unfolding cleared-words
+  cleared-active q [] ws q′ = refl
+  cleared-active q (t ∷ ts) ws q′ = cleared-active q ts _ q′ ∙ law .active-entry q (t .card) _ ws q′
+
+  -- behind `mark`, setting C and N leaves bits and entries: the row's bit says whether it has an entry, whatever it said before
+  marked-C : (q s v : ℕ) (ws : S .Words) → s < r → Marked S r ws q → Marked S r (S .set-C s v ws) q
+  marked-C q s v ws hs m = law .active-C s v ws q ∙ m ∙ sym (any-cong r _ _ (λ j l. ap present (law .entry-C s v ws hs q j)))
+
+  marked-N : (q s v : ℕ) (ws : S .Words) → s < r → Marked S r ws q → Marked S r (S .set-N s v ws) q
+  marked-N q s v ws hs m = law .active-N s v ws q ∙ m ∙ sym (any-cong r _ _ (λ j l. ap present (law .entry-N s v ws hs q j)))
+
+  marked-mark : (q : ℕ) (ws : S .Words) → S .Fits ws → q < k → Marked S r (S .mark q ws) q
+  marked-mark q ws h hq =
+      law .active-mark q ws h hq q ∙ put-same q _ (S .active ws) ∙ sym (any-cong r _ _ (λ j l. ap present (law .entry-mark q ws q j)))
+
+  pub taken-marked : (q s : ℕ) (m : Message) (ws : S .Words) → s < r → q < k → S .Fits ws → Marked S r (taken-words S q s m ws) q
+  unfolding taken-words
+  taken-marked q s (increment c w p start) ws hs hq h =
+      marked-N q s _ _ hs (marked-C q s _ _ hs (marked-mark q _ (law .fits-entry q s _ ws h) hq))
+  taken-marked q s (clearing c ts) ws hs hq h = marked-N q s _ _ hs (marked-mark q _ (cleared-fits q ts ws h) hq)
+
+  -- and no other row's bit moves
+  pub taken-active : (q s : ℕ) (m : Message) (ws : S .Words) → q < k → S .Fits ws → (q′ : ℕ) → (q′ ≡ q → ⊥) → S .active (taken-words S q s m ws) q′ ≡ S .active ws q′
+  unfolding taken-words
+  taken-active q s (increment c w p start) ws hq h q′ d =
+      law .active-N s _ _ q′ ∙ law .active-C s _ _ q′ ∙ law .active-mark q _ (law .fits-entry q s _ ws h) hq q′ ∙ put-other q _ _ q′ d ∙ law .active-entry q s _ ws q′
+  taken-active q s (clearing c ts) ws hq h q′ d =
+      law .active-N s _ _ q′ ∙ law .active-mark q _ (cleared-fits q ts ws h) hq q′ ∙ put-other q _ _ q′ d ∙ cleared-active q ts ws q′
 
 -- COUNT, CLEAR and READ see the replica that the words show
 module _ (r k : ℕ) (S : Store) where

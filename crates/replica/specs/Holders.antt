@@ -44,7 +44,7 @@ module _ (b : List ℕ) (q : ℕ) where
       let passed = read-decided b q .exact 0 .0 accepted in
       let few : cards b ≤ most-cards = right-facts b (passed .0) .sizes .few-cards in
       rw (read-decided b q .accepted accepted) (
-        omega (arith, held-below (entry-of (cards b) b q) (cards b) (row-facts b q (passed .1 .1 .0) .entry), mul-le-mul-right MAX few),
+        omega (arith, held-below (entry-of (cards b) b q) (cards b) (row-facts b q (passed .1 .1 .0) .tables .entry), mul-le-mul-right MAX few),
         lt-of-lt-of-le holders-below (pow-le-pow-right (lit< tt) few),
       ))
       (λ refused. rw (read-decided b q .refused refused) (omega arith, lit< tt))

@@ -1,12 +1,13 @@
-// Reading one counter of a replica.
+// Reading one counter of a replica, and which are active.
 use layout::words;
 use protocol::Entry;
+use replica_model::Active;
 use replica_model::Reading;
 ghost use mathlib.Core.Path.{_≡_};
 ghost use mathlib.Core.Bool.{cond};
 ghost use Rattle.protocol.specs.Limits.{bad-row};
 ghost use Rattle.protocol.specs.Entry.{present};
-ghost use Rattle.replica_model.specs.Calls.{row-well-formed, no-reading, reading, is-quiet, read-on};
+ghost use Rattle.replica_model.specs.Calls.{row-well-formed, no-reading, reading, is-quiet, read-on, active-on};
 ghost use Rattle.layout.specs.WordsLaws.{RowInside};
 
 fn is_present(e: Entry) -> bool
@@ -44,7 +45,8 @@ fn row_reading(words: &[u64], r: usize, q: usize) -> Reading
     requires { ⌜ RowInside (now words) r q ⌝ }
     ensures { λ a. ⌜ a ≡ cond (row-well-formed (now (words .entry)) q) (reading (now (words .entry)) q) (no-reading bad-row) ⌝ }
 {
-    let mut high = words::counts_joined(words, r);
+    let counts = words::counts_joined(words, r);
+    let mut high: u64 = 0;
     let mut value: u64 = 0;
     let mut holders: u16 = 0;
     let mut j: usize = 0;
@@ -58,10 +60,7 @@ fn row_reading(words: &[u64], r: usize, q: usize) -> Reading
         holders = holders | (bit_of(is_present(e)) << j);
         j += 1;
     }
-    if protocol::MAX < high {
-        return refused(protocol::BAD_ROW);
-    }
-    if !words::is_own_entry_counted(words, r, q) {
+    if !words::is_rest_well_formed(words, r, q, counts, high) {
         return refused(protocol::BAD_ROW);
     }
     Reading {
@@ -86,6 +85,23 @@ pub fn read(words: &[u64], counter: u64) -> Reading
         return refused(protocol::BAD_COUNTER);
     }
     row_reading(words, r, words::index(counter))
+}
+
+// The active counters: the word is answered as it is, and no row is looked at.
+// Ruled out: some of them left out (must-fail/active_counter_0_only), a refusal answered with 0 (must-fail/active_refusal_hidden).
+pub fn active_counters(words: &[u64]) -> Active
+    ensures { λ a. ⌜ a ≡ active-on (now (words .entry)) ⌝ }
+{
+    if !words::is_right(words) {
+        return Active {
+            number: protocol::BAD_REPLICA,
+            counters: 0,
+        };
+    }
+    Active {
+        number: 0,
+        counters: words::active_counters(words),
+    }
 }
 
 // Ruled out: quiet by a value of 0, and quiet by a refused read's zeros (must-fail/quiet_as_value_0 and quiet_though_refused of crate

@@ -69,11 +69,11 @@ pub sending-from : (b : List ℕ) (q w : ℕ) → right b ≡ true → q < count
 sending-from b q w h l f d room =
     let r = right-facts b h in
     let k = row-facts b q f in
-    record { right = r; counter = l; row = k; more = let n = k .N≤MAX (own-card b) (r .own) in omega arith; room = room }
+    record { right = r; counter = l; row = k; more = let n = k .tables .N≤MAX (own-card b) (r .own) in omega arith; room = room }
 
 -- a clear counts nothing, and there is always room for that
 pub none-more : (b : List ℕ) (q : ℕ) → right b ≡ true → row-well-formed b q ≡ true → C-of b (own-card b) + 0 ≤ MAX
-none-more b q h f = let c = row-facts b q f .C≤MAX (own-card b) (right-facts b h .own) in omega arith
+none-more b q h f = let c = row-facts b q f .tables .C≤MAX (own-card b) (right-facts b h .own) in omega arith
 
 pub sending-facts : (b : List ℕ) (q : ℕ) (asked : Bool) (w : ℕ) → AllPass (making-checks b q asked w) → Sending b q w × (asked ≡ true)
 sending-facts b q asked w (h₁, (h₃, (h₁₆, (h₂, (h₄, _))))) =
@@ -146,6 +146,7 @@ module _ (b : List ℕ) (q s : ℕ) (m : Message) (after : List ℕ) (k : Move b
   unfolding read-on
   move-isolates = record {
     rows-stay = stay;
+    bits-stay = λ q′ d. move-moves .other-bits q′ (λ e. d (e ∙ k .counter));
     reads-stay = λ q′ l d h.
         rw (right-from b (k .before), move-keeps .right-kept (right-from b (k .before)), same-counters b after (k .performed .same-head), lt-ltb q′ (counters b) l, h, move-keeps .rows-kept q′ l h)
         (reading-alike b after q′ (same-cards b after (k .performed .same-head)) (λ j y. stay q′ j l y d));
@@ -160,4 +161,4 @@ pub unmoved-keeps : (b : List ℕ) → Keeps b b
 unmoved-keeps b = record { right-kept = λ h. h; rows-kept = λ q l h. h }
 
 pub unmoved-isolates : (b : List ℕ) (q : ℕ) → Isolates b q b
-unmoved-isolates b q = record { rows-stay = λ q′ j l y d. refl; reads-stay = λ q′ l d h. refl }
+unmoved-isolates b q = record { rows-stay = λ q′ j l y d. refl; bits-stay = λ q′ d. refl; reads-stay = λ q′ l d h. refl }

@@ -1,21 +1,22 @@
 -- DEFINITIONS. What each call of a card answers and leaves (SPECIFICATION 3 to 5). Each call is a list of
 -- checks, in the specification's order, and a result: the first check that fails gives the number (`Checks` of protocol).
-use Prim.Native.Nat.{ℕ, _+_}
+use Prim.Native.Nat.{ℕ, _+_, _^_}
 use mathlib.Core.List.{List, [], _∷_, _++_}
 use mathlib.Core.Bool.{Bool, true, not, cond, _&&_}
 use lib.ListN.{length}
 use lib.Dec.{leb, ltb, eqb}
 use Rattle.protocol.specs.Limits.{MAX, most-cards, most-counters, most-amount, bad-replica, bad-row, bad-counter, exhausted, short-output, unreadable, bad-card, repeated, early, implausible, bad-amount}
 use Rattle.protocol.specs.Checks.{Check, or-else, checked}
-use Rattle.protocol.specs.Functions.{count-below}
+use Rattle.protocol.specs.Functions.{agrees, count-below}
 use Rattle.protocol.specs.Acceptance.{tables-well-formed, cards-known, plausible}
-use Rattle.protocol.specs.Entry.{present}
+use Rattle.protocol.specs.Entry.{present, has-entry}
 use Rattle.protocol.specs.Chassis.{Replica, Message, count-message, clear-message, read-value, read-holders, counter-of}
 use Rattle.protocol.specs.Store.{shown, taken-words}
 use Rattle.wire.specs.Message.{from-one-to, over}
-use Rattle.replica_model.specs.Layout.{cards, counters, own-card, replica-length, C-of, N-of, entry-of, layout, fresh-words}
+use Rattle.replica_model.specs.Layout.{cards, counters, own-card, replica-length, active-word, active-of, C-of, N-of, entry-of, layout, fresh-words}
 use Rattle.replica_model.specs.Format.{Received, Format, format-2}
 pub use Rattle.replica_model.specs.declared.Reading.{Reading}
+pub use Rattle.replica_model.specs.declared.Active.{Active}
 pub use Rattle.replica_model.specs.declared.Sent.{Sent}
 pub use Rattle.replica_model.specs.declared.Cleared.{Cleared}
 pub use Rattle.replica_model.specs.declared.Taken.{Taken}
@@ -30,16 +31,20 @@ sizes-in-range r k = leb 1 r && leb r most-cards && leb 1 k && leb k most-counte
 unfoldable pub replica-fits : ℕ → ℕ → ℕ → ℕ → Bool
 replica-fits r k own words = sizes-in-range r k && ltb own r && eqb words (replica-length r k)
 
+-- "or a one at bit k or above": of the words themselves, which open does not look at
 unfoldable pub right : List ℕ → Bool
-right b = replica-fits (cards b) (counters b) (own-card b) (length b)
+right b = replica-fits (cards b) (counters b) (own-card b) (length b) && ltb (active-word b) (2 ^ counters b)
 
--- whether the replica in place i of a chassis of r cards and k counters is its card's; not so where "its own sizes other than r and k, or its own card not its place"
+-- whether the replica in place i of a chassis of r cards and k counters is its card's; not so where "its own sizes other than r and k, or its own card not its place, or
+-- a one at bit k or above"
 abbrev pub in-place : ℕ → ℕ → ℕ → List ℕ → Bool
-in-place r k i b = eqb (cards b) r && eqb (counters b) k && eqb (own-card b) i
+in-place r k i b = eqb (cards b) r && eqb (counters b) k && eqb (own-card b) i && ltb (active-word b) (2 ^ k)
 
--- 2: "Row not well-formed", of row q
+-- 2: "Row not well-formed", of row q: its tables, and "its bit agrees"
 unfoldable pub row-well-formed : List ℕ → ℕ → Bool
-row-well-formed b q = tables-well-formed (cards b) (own-card b) (C-of b) (N-of (cards b) b) (entry-of (cards b) b q)
+row-well-formed b q =
+    tables-well-formed (cards b) (own-card b) (C-of b) (N-of (cards b) b) (entry-of (cards b) b q)
+    && agrees (active-of b q) (has-entry (cards b) (entry-of (cards b) b q))
 
 -- the state of Algorithm 1 that the words show
 abbrev pub state : List ℕ → Replica
@@ -88,6 +93,18 @@ is-quiet a = eqb (a .number) 0 && eqb (a .holders) 0
 
 unfoldable pub read-on : List ℕ → ℕ → Reading
 read-on b q = checked no-reading (read-checks b q) (reading b q)
+
+-- ---- the active counters: "1" alone
+
+abbrev pub active-checks : List ℕ → List Check
+active-checks b = or-else (right b) bad-replica ∷ []
+
+abbrev pub no-active : ℕ → Active
+no-active number = record { number = number; counters = 0 }
+
+-- "answers the set of active counters from that word alone"
+unfoldable pub active-on : List ℕ → Active
+active-on b = checked no-active (active-checks b) (record { number = 0; counters = active-word b })
 
 -- ---- count: "1, 3, 16, 2, 4, 5"; clear: "1, 3, 2, 4, 5"
 

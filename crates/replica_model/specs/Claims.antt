@@ -32,11 +32,12 @@ use Rattle.replica_model.specs.Format.{content, format-2}
 
 -- ---- WELL-FORMED, in plain numbers
 
--- A replica is right exactly if its sizes are in range, the own card is one of its cards and it is as long as those sizes ask.
+-- A replica is right exactly if its sizes are in range, the own card is one of its cards, it is as long as those sizes ask, and no bit of the active counters is one at k or above.
 pub right-is : (b : List ℕ) → (right b ≡ true) ↔ Right b
 right-is b = (right-facts b, right-from b)
 
--- A row is well-formed exactly if every C and N is at most MAX, every entry is absent (all zero) or has 1 ≤ p ≤ c ≤ MAX and n ≤ p, and the own entry's c is at most the own C.
+-- A row is well-formed exactly if every C and N is at most MAX, every entry is absent (all zero) or has 1 ≤ p ≤ c ≤ MAX and n ≤ p, the own entry's c is at most the own C,
+-- and its bit is one exactly where it has an entry.
 pub row-well-formed-is : (b : List ℕ) (q : ℕ) → (row-well-formed b q ≡ true) ↔ RowOf b q
 row-well-formed-is b q = (row-facts b q, row-from b q)
 
@@ -98,15 +99,16 @@ pub clear-sends : (b : List ℕ) (q : ℕ) (out : List ℕ) → clear-on b q out
 unfolding clear-message form.clear-message shown
 clear-sends b q out h = rw (clear-decided b q out .accepted h) (rw (present-length (entry-of (cards b) b q) (cards b)), refl)
 
--- After an accepted count by w the own N is one more and the own C is w more; no other C or N moves, and no entry but the own one of the counter.
+-- After an accepted count by w the own N is one more and the own C is w more; no other C or N moves, no entry but the own one of the counter, and no other counter's bit.
 pub count-moves : (b : List ℕ) (q w : ℕ) (out : List ℕ) → count-on b q w out .answer .number ≡ 0 → OnlyMoves b (own-card b) (count-of b q w) (count-on b q w out .words)
 count-moves b q w out h = move-moves b q _ _ _ (count-move b q w out h)
 
--- After an accepted clear the own N is one more; no C and no other N moves, and no entry but those of the counter that the clear names.
+-- After an accepted clear the own N is one more; no C and no other N moves, no entry but those of the counter that the clear names, and no other counter's bit.
 pub clear-moves : (b : List ℕ) (q : ℕ) (out : List ℕ) → clear-on b q out .answer .number ≡ 0 → OnlyMoves b (own-card b) (clear-of b q) (clear-on b q out .words)
 clear-moves b q out h = move-moves b q _ _ _ (clear-move b q out h)
 
--- After an accepted take the sender's N is one more, and its C is more by the amount if it was an increment; no other C or N moves, and no entry but those of the counter that the message names.
+-- After an accepted take the sender's N is one more, and its C is more by the amount if it was an increment; no other C or N moves, no entry but those of the counter that the message names,
+-- and no other counter's bit.
 pub take-moves : (b bytes : List ℕ) → take-on b bytes .answer .number ≡ 0
     → let m = message-at version-2 bytes in OnlyMoves b (m .sender) (content m) (take-on b bytes .words)
 take-moves b bytes h = move-moves b _ _ _ _ (take-move b bytes h)
@@ -227,21 +229,21 @@ take-accepts = fresh-take
 
 -- ---- ISOLATION
 
--- Whatever count on counter q answers, every other row keeps its words, and read its whole answer for every other counter whose row was well-formed.
+-- Whatever count on counter q answers, every other row keeps its words and its bit, and read its whole answer for every other counter whose row was well-formed.
 pub count-isolates : (b : List ℕ) (q w : ℕ) (out : List ℕ) → Isolates b q (count-on b q w out .words)
 count-isolates b q w out =
     by-place (count-on b q w out .answer .number) 0
     (λ h. move-isolates b q _ _ _ (count-move b q w out h))
     (λ d. rw (count-decided b q w out .refused d) (unmoved-isolates b q))
 
--- Whatever clear on counter q answers, every other row keeps its words, and read its whole answer for every other counter whose row was well-formed.
+-- Whatever clear on counter q answers, every other row keeps its words and its bit, and read its whole answer for every other counter whose row was well-formed.
 pub clear-isolates : (b : List ℕ) (q : ℕ) (out : List ℕ) → Isolates b q (clear-on b q out .words)
 clear-isolates b q out =
     by-place (clear-on b q out .answer .number) 0
     (λ h. move-isolates b q _ _ _ (clear-move b q out h))
     (λ d. rw (clear-decided b q out .refused d) (unmoved-isolates b q))
 
--- Whatever take answers to bytes on counter q, every other row keeps its words, and read its whole answer for every other counter whose row was well-formed.
+-- Whatever take answers to bytes on counter q, every other row keeps its words and its bit, and read its whole answer for every other counter whose row was well-formed.
 pub take-isolates : (b bytes : List ℕ) → Isolates b (message-at version-2 bytes .counter) (take-on b bytes .words)
 take-isolates b bytes =
     by-place (take-on b bytes .answer .number) 0
@@ -268,7 +270,7 @@ pub read-and-clear-exact : (b : List ℕ) (q : ℕ) (out : List ℕ)
     (with-value (reading b q .value) (sent-with format-2 b out (clear-of b q))) (read-and-clear-on b q out)
 read-and-clear-exact = read-and-clear-decided
 
--- Whatever read-and-clear on counter q answers, every other row keeps its words, and read its whole answer for every other counter whose row was well-formed.
+-- Whatever read-and-clear on counter q answers, every other row keeps its words and its bit, and read its whole answer for every other counter whose row was well-formed.
 pub read-and-clear-isolates : (b : List ℕ) (q : ℕ) (out : List ℕ) → Isolates b q (read-and-clear-on b q out .words)
 unfolding read-and-clear-on
 read-and-clear-isolates = clear-isolates

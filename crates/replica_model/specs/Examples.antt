@@ -3,21 +3,21 @@ use Prim.Native.Nat.{ℕ, _+_, _-_}
 use mathlib.Core.Path.{_≡_, refl}
 use mathlib.Core.List.{List, [], _∷_}
 use mathlib.Core.Bool.{Bool, true, not, _&&_}
-use lib.ListN.{length, replicate}
+use lib.ListN.{length, replicate, set}
 use lib.Dec.{eqb}
 use Rattle.protocol.specs.Limits.{MAX}
 use Rattle.protocol.specs.Tables.{put, sum, bits}
 use Rattle.protocol.specs.Entry.{incremented, cleared}
 use Rattle.protocol.specs.Chassis.{count-message, present-entries, clear-message, read-value, read-holders}
 use Rattle.protocol.specs.StoreLaws.{cleared-words, taken-words, shown}
-use Rattle.protocol.specs.Functions.{all-below, count-below}
+use Rattle.protocol.specs.Functions.{bit, with-bit, any-below, all-below, count-below}
 use Rattle.protocol.specs.Acceptance.{tables-well-formed, entry-well-formed, card-well-formed, all-entries, cards-known, increment-plausible, entry-plausible, plausible}
 use Rattle.wire.specs.Number.{number-at, bytes-of}
 use Rattle.wire.specs.Message as form
 use Rattle.wire.specs.declared.Message.{Message}
 use Rattle.wire.specs.Message.{version-1, version-2, header-bytes, increment-bytes, entry-bytes, entries-bytes, clear-bytes, message-bytes, header-in-range, amount-in-range, increment-in-range, clear-in-range, entry-in-range, entries-in-range, unused, in-range, increment-message, entries-at, called-length, message-at, reads}
 use Rattle.replica_model.specs.Layout.{replica-length, C-of, N-of, entry-of, fresh-words}
-use Rattle.replica_model.specs.Calls.{replica-fits, words-after, send-with, take-with, sizes-in-range, right, row-well-formed, open-on, reading, is-quiet, read-on, count-on, clear-on, read-and-clear-on, take-on}
+use Rattle.replica_model.specs.Calls.{replica-fits, words-after, send-with, take-with, sizes-in-range, right, row-well-formed, open-on, reading, is-quiet, read-on, active-on, count-on, clear-on, read-and-clear-on, take-on}
 use Rattle.replica_model.specs.Format.{content}
 
 room : ℕ → List ℕ
@@ -121,7 +121,7 @@ value-0-and-quiet =
 
 -- card 0 of one, with one counter, that has counted C units in one message
 one-message : ℕ → List ℕ
-one-message C = 1 ∷ 1 ∷ 0 ∷ C ∷ 1 ∷ 0 ∷ 0 ∷ 0 ∷ []
+one-message C = 1 ∷ 1 ∷ 0 ∷ 0 ∷ C ∷ 1 ∷ 0 ∷ 0 ∷ 0 ∷ []
 
 -- C counts units and N messages: a row with C above N is well-formed, and one with C above MAX is not.
 units-and-messages : Bool
@@ -150,10 +150,39 @@ three-and-four =
     && eqb (answer-to other (increment-message version-2 0 1 0 2 0 2)) 10
     && eqb (answer-to other (increment-message version-1 0 1 0 1 1 0)) 6
 
+-- Of 64 counters, counts on 0 and 63 make those two active, a clear of 0 leaves 63, and a word with all 64 bits one is accepted by the call.
+active-of-64 : Bool
+active-of-64 =
+    let b = count-on (fresh-words 1 64 0) 63 1 (room 40) .words in
+    let c = count-on b 0 1 (room 40) .words in
+    let d = clear-on c 0 (room 48) .words in
+    eqb (active-on (fresh-words 1 64 0) .counters) 0 && eqb (active-on b .counters) 9223372036854775808 && eqb (active-on c .counters) 9223372036854775809
+    && eqb (active-on d .counters) 9223372036854775808 && eqb (active-on d .number) 0
+    && eqb (active-on (set (fresh-words 1 64 0) 3 18446744073709551615) .number) 0
+
+-- Card 2 of three: a clear that comes before the count it cancels makes its counter active, and that count makes it quiet again.
+active-ahead : Bool
+active-ahead =
+    let fresh = fresh-words 3 2 2 in
+    let b = take-on fresh (message-bytes (form.clear-message version-2 1 1 1 (record { card = 0; p = 1; c = 1 } ∷ []))) .words in
+    let c = take-on b (message-bytes (increment-message version-2 0 1 1 1 1 1)) .words in
+    eqb (active-on b .counters) 2 && eqb (active-on c .counters) 0
+
+-- A fresh replica of two counters with another word of bits: 1 disagrees with row 0 alone, which is 2, and the call answers it all the same; 5 has a bit for counter 2,
+-- which is 1.
+other-bits : Bool
+other-bits =
+    let b : List ℕ = set (fresh-words 2 2 0) 3 1 in
+    let high : List ℕ = set (fresh-words 2 2 0) 3 5 in
+    eqb (read-on b 0 .number) 2 && eqb (read-on b 1 .number) 0 && eqb (count-on b 0 1 (room 40) .answer .number) 2 && eqb (clear-on b 0 (room 40) .answer .number) 2
+    && eqb (answer-to b (increment-message version-2 1 1 0 1 1 1)) 2 && eqb (answer-to b (increment-message version-2 1 1 1 1 1 1)) 0
+    && eqb (active-on b .number) 0 && eqb (active-on b .counters) 1
+    && eqb (active-on high .number) 1 && eqb (active-on high .counters) 0 && eqb (read-on high 1 .number) 1 && eqb (answer-to high (increment-message version-2 1 1 1 1 1 1)) 1
+
 pub all-examples : Bool
 all-examples = clear-on-fresh && sequences && output-lengths && card-limits && cards-named && counter-limits && third-count && count-clear-count && count-count-read-and-clear && value-0-and-quiet
-    && units-and-messages && amounts && three-and-four
+    && units-and-messages && amounts && three-and-four && active-of-64 && active-ahead && other-bits
 
 pub examples-hold : all-examples ≡ true
-unfolding all-examples clear-on-fresh numbered sequences output-lengths on-cards card-limits named cards-named counter-limits third-count count-clear-count count-count-read-and-clear value-0-and-quiet one-message units-and-messages amounts three-and-four answer-to room sizes-in-range right replica-fits all-below count-below entry-well-formed card-well-formed row-well-formed tables-well-formed open-on reading read-on send-with words-after count-on clear-on read-and-clear-on content all-entries cards-known increment-plausible entry-plausible plausible take-with fresh-words header-bytes increment-bytes entry-bytes entries-bytes clear-bytes message-bytes header-in-range amount-in-range increment-in-range clear-in-range entry-in-range entries-in-range unused in-range increment-message entries-at called-length message-at reads number-at bytes-of cleared-words taken-words shown count-message present-entries clear-message read-value read-holders put sum bits incremented cleared form.clear-message
+unfolding all-examples active-of-64 active-ahead other-bits active-on clear-on-fresh numbered sequences output-lengths on-cards card-limits named cards-named counter-limits third-count count-clear-count count-count-read-and-clear value-0-and-quiet one-message units-and-messages amounts three-and-four answer-to room sizes-in-range right replica-fits all-below any-below bit with-bit count-below entry-well-formed card-well-formed row-well-formed tables-well-formed open-on reading read-on send-with words-after count-on clear-on read-and-clear-on content all-entries cards-known increment-plausible entry-plausible plausible take-with fresh-words header-bytes increment-bytes entry-bytes entries-bytes clear-bytes message-bytes header-in-range amount-in-range increment-in-range clear-in-range entry-in-range entries-in-range unused in-range increment-message entries-at called-length message-at reads number-at bytes-of cleared-words taken-words shown count-message present-entries clear-message read-value read-holders put sum bits incremented cleared form.clear-message
 examples-hold = refl

@@ -1,6 +1,6 @@
 -- LAWS. A fresh replica: all its C, N and entries are 0. So it is right and well-formed in every row, and every call has something that it accepts.
 use Prim.Native.Nat.{ℕ, _+_, _≤_, _<_}
-use mathlib.Core.Path.{_≡_, refl, ap}
+use mathlib.Core.Path.{_≡_, refl, sym, ap, _∙_}
 use mathlib.Core.Logic.{_≢_}
 use mathlib.Core.List.{List}
 use mathlib.Core.Bool.{Bool, true, not, _&&_}
@@ -8,6 +8,7 @@ use native.Mathlib.Omega.{arith}
 use lib.ListN.{length}
 use lib.Dec.{leb, ltb, eqb}
 use borrow.Author.Tests.{lt-ltb, le-leb, ne-eqb}
+use Rattle.protocol.specs.BitLaws.{any-none}
 use Rattle.protocol.specs.Entry.{present}
 use Rattle.protocol.specs.Acceptance.{all-entries, cards-known, increment-plausible, plausible}
 use Rattle.protocol.specs.Checks.{Gives}
@@ -18,7 +19,7 @@ use Rattle.wire.specs.Message.{version-2, increment-message, message-bytes, inc
 use Rattle.wire.specs.Bounds.{increment-in-range-from, increment-entries}
 use Rattle.wire.specs.RoundTrips.{message-read, read-as}
 use Rattle.replica_model.specs.Layout.{replica-length, C-of, N-of, fresh-words}
-use Rattle.replica_model.specs.LayoutLaws.{fresh-shows}
+use Rattle.replica_model.specs.LayoutLaws.{fresh-shows, fresh-bit}
 use Rattle.replica_model.specs.Calls.{sizes-in-range, right, row-well-formed, open-on, read-on, count-on, clear-on, take-on, is-amount, send-checks, holders, replica-fits}
 use Rattle.replica_model.specs.ClaimTerms.{Right, RowOf, Sizes}
 use Rattle.replica_model.specs.RowLaws.{right-from, row-from, tests}
@@ -27,13 +28,16 @@ use Rattle.replica_model.specs.CallsLaws.{open-decided, read-accepted, c
 
 pub fresh-right : (r k own : ℕ) → Sizes r k → own < r → Right (fresh-words r k own)
 unfolding fresh-words
-fresh-right r k own s o = record { sizes = s; own = o; fits = fresh-shows r k own .fits }
+fresh-right r k own s o = record { sizes = s; own = o; fits = fresh-shows r k own .fits .long; low = fresh-shows r k own .fits .low }
 
 pub fresh-row : (r k own q : ℕ) → own < r → q < k → RowOf (fresh-words r k own) q
 unfolding fresh-words
-fresh-row r k own q ho hq =
-    row-alike r own _ _ _ _ _ _ ho (fresh-shows r k own .Cs) (fresh-shows r k own .Ns) (λ j l. fresh-shows r k own .entries q j hq l)
-    (omega arith)
+fresh-row r k own q ho hq = record {
+  tables =
+      row-alike r own _ _ _ _ _ _ ho (fresh-shows r k own .Cs) (fresh-shows r k own .Ns) (λ j l. fresh-shows r k own .entries q j hq l)
+      (omega arith);
+  marked = fresh-bit r k own q ∙ sym (any-none r _ .1 (λ j l. ap present (fresh-shows r k own .entries q j hq l)));
+}
 
 -- ---- what each call accepts
 

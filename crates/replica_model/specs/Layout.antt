@@ -1,13 +1,16 @@
 -- DEFINITIONS. One card's replica (SPECIFICATION 3) as a list of words: the only file that knows where a word stands.
--- "3 + 2r + 3rk words: r, k, own card; then C[j] for each card j .. then N[j] .. then, counter by counter, one entry (p, n, c) for each card."
-use Prim.Native.Nat.{ℕ, _+_, _*_}
+-- "4 + 2r + 3rk words: r, k, own card; then one word of bits, the active counters; then C[j] for each card j .. then N[j] .. then, counter by counter, one entry (p, n, c) for each card."
+use Prim.Native.Nat.{ℕ, _+_, _*_, _^_, _<_}
 use mathlib.Core.Path.{_≡_}
+use mathlib.Core.Bool.{Bool}
 use mathlib.Core.List.{List, [], _∷_, _++_}
 use lib.ListN.{length, getD, set, replicate}
+use Rattle.protocol.specs.Functions.{bit, with-bit}
 use Rattle.protocol.specs.declared.Entry.{Entry}
+use Rattle.protocol.specs.Entry.{has-entry}
 use Rattle.protocol.specs.Store.{Store}
 
--- "r, k, own card": what stands before C
+-- "r, k, own card": the words that open writes and no other call
 pub record Head : Type 0 where
   pub cards : ℕ
   pub counters : ℕ
@@ -19,9 +22,13 @@ head-of b = record { cards = getD b 0 0; counters = getD b 1 0; own-card = getD 
 abbrev pub head-words : Head → List ℕ
 head-words h = h .cards ∷ h .counters ∷ h .own-card ∷ []
 
--- how many words it takes
+-- "then one word of bits, the active counters": right behind them
+abbrev pub at-active : ℕ
+at-active = 3
+
+-- how many words stand before C
 abbrev pub head-length : ℕ
-head-length = 3
+head-length = 4
 
 abbrev pub cards : List ℕ → ℕ
 cards b = head-of b .cards
@@ -48,7 +55,14 @@ cell r q j = q * r + j
 abbrev pub at-entry : ℕ → ℕ → ℕ → ℕ
 at-entry r q j = head-length + 2 * r + 3 * cell r q j
 
--- ---- C[j], N[j] and the entry of row q for card j, in a replica of r cards. Row q is counter q's.
+-- ---- The active counters, C[j], N[j] and the entry of row q for card j, in a replica of r cards. Row q is counter q's.
+
+abbrev pub active-word : List ℕ → ℕ
+active-word b = getD b at-active 0
+
+-- "bit q is one"
+abbrev pub active-of : List ℕ → ℕ → Bool
+active-of b q = bit (active-word b) q
 
 abbrev pub C-of : List ℕ → ℕ → ℕ
 C-of b j = getD b (at-C j) 0
@@ -76,19 +90,33 @@ set-three b at x y z = set (set (set b at x) (at + 1) y) (at + 2) z
 abbrev pub set-entry : ℕ → ℕ → ℕ → Entry → List ℕ → List ℕ
 set-entry r q j e b = set-three b (at-entry r q j) (e .p) (e .n) (e .c)
 
+abbrev pub set-active : ℕ → Bool → List ℕ → List ℕ
+set-active q t b = set b at-active (with-bit q t (active-word b))
+
+-- "bit q is one exactly when counter q's row has an entry"
+abbrev pub mark : ℕ → ℕ → List ℕ → List ℕ
+mark r q b = set-active q (has-entry r (entry-of r b q)) b
+
+-- as many words as a replica takes, and no bit for a counter that is not there
+pub record Fits (r k : ℕ) (b : List ℕ) : Type 0 where
+  pub long : length b ≡ replica-length r k
+  pub low : active-word b < 2 ^ k
+
 -- the words as a store of replicas of r cards and k counters
 abbrev pub layout : ℕ → ℕ → Store
 layout r k = record {
   Words = List ℕ;
-  Fits = λ b. length b ≡ replica-length r k;
+  Fits = Fits r k;
   Head = Head;
   head = head-of;
   entry = entry-of r;
   C = C-of;
   N = N-of r;
+  active = active-of;
   set-entry = set-entry r;
   set-C = set-C;
   set-N = set-N r;
+  mark = mark r;
 }
 
 -- "A fresh replica has zeros after its first three words."
@@ -96,4 +124,4 @@ abbrev pub fresh-head : ℕ → ℕ → ℕ → Head
 fresh-head r k own = record { cards = r; counters = k; own-card = own }
 
 unfoldable pub fresh-words : ℕ → ℕ → ℕ → List ℕ
-fresh-words r k own = head-words (fresh-head r k own) ++ replicate (2 * r + 3 * (r * k)) 0
+fresh-words r k own = head-words (fresh-head r k own) ++ replicate (1 + 2 * r + 3 * (r * k)) 0

@@ -2,17 +2,21 @@
 use Prim.Native.Nat.{ℕ, zero, suc, _+_, _-_, _*_, _≤_, _<_}
 use mathlib.Core.Path.{_≡_, refl, ap, _∙_}
 use mathlib.Core.Logic.{_≢_}
+use mathlib.Core.Bool.{Bool, false}
 use mathlib.Core.List.{List}
 use native.Mathlib.Nat.{mul-le-mul-right}
 use native.Mathlib.Omega.{arith}
 use lib.ListN.{length, getD, set, replicate, length-set, length-replicate}
+use lib.Pow.{pow-pos}
 use lib.Seq.{getD-set-same, getD-set-other, getD-append-add, set-getD}
 use Rattle.protocol.specs.Cases.{by-place, by-le}
+use Rattle.protocol.specs.BitLaws.{bit, with-bit, bit-put, with-bit-below, no-bit}
 use Rattle.protocol.specs.Tables.{put, put-same, put-other, put-same-row, put-other-row}
 use Rattle.protocol.specs.declared.Entry.{Entry}
+use Rattle.protocol.specs.Entry.{has-entry}
 use Rattle.protocol.specs.Chassis.{fresh-replica}
 use Rattle.protocol.specs.StoreLaws.{Shows, Lawful}
-use Rattle.replica_model.specs.Layout.{Head, head-of, cards, counters, own-card, head-words, head-length, replica-length, at-C, at-N, cell, at-entry, C-of, entry-of, set-C, set-three, set-entry, layout, fresh-head, fresh-words}
+use Rattle.replica_model.specs.Layout.{Head, head-of, cards, counters, own-card, head-words, at-active, head-length, replica-length, at-C, at-N, cell, at-entry, active-word, active-of, C-of, entry-of, set-C, set-three, set-entry, set-active, Fits, layout, fresh-head, fresh-words}
 
 -- ---- which entry is where: the one place with products
 
@@ -100,29 +104,67 @@ module _ (r k : ℕ) where
       (λ d. rw put-other (getD-set-other ws (from + j) (from + i) v 0 (λ e. d (omega arith))))
 
   -- the head, where its words stay
-  same-head : (b b′ : List ℕ) → ((i : ℕ) → i < head-length → getD b′ i 0 ≡ getD b i 0) → head-of b′ ≡ head-of b
+  same-head : (b b′ : List ℕ) → ((i : ℕ) → i < at-active → getD b′ i 0 ≡ getD b i 0) → head-of b′ ≡ head-of b
   same-head b b′ e = λ x. record { cards = e 0 (omega arith) x; counters = e 1 (omega arith) x; own-card = e 2 (omega arith) x }
 
-  head-word : (at v : ℕ) (ws : List ℕ) → head-length ≤ at → head-of (set ws at v) ≡ head-of ws
+  head-word : (at v : ℕ) (ws : List ℕ) → at-active ≤ at → head-of (set ws at v) ≡ head-of ws
   head-word at v ws l = same-head ws (set ws at v) (λ i below. getD-set-other ws at i v 0 (λ d. omega arith))
+
+  -- the active counters, behind a setter of something else
+  active-word-entry : (q j : ℕ) (e : Entry) (ws : List ℕ) → active-word (set-entry r q j e ws) ≡ active-word ws
+  active-word-entry q j e ws = before-entry q j e ws at-active (omega arith)
+
+  active-word-other : (at v : ℕ) (ws : List ℕ) → head-length ≤ at → active-word (set ws at v) ≡ active-word ws
+  active-word-other at v ws l = getD-set-other ws at at-active v 0 (λ d. omega arith)
+
+  fits-other : (at v : ℕ) (ws : List ℕ) → head-length ≤ at → Fits r k ws → Fits r k (set ws at v)
+  fits-other at v ws l h = record { long = length-set ws at v ∙ h .long; low = rw (active-word-other at v ws l) (h .low) }
+
+  pub fits-entry : (q j : ℕ) (e : Entry) (ws : List ℕ) → Fits r k ws → Fits r k (set-entry r q j e ws)
+  fits-entry q j e ws h = record { long = set-entry-length r q j e ws ∙ h .long; low = rw (active-word-entry q j e ws) (h .low) }
+
+  -- and behind their own
+  active-word-set : (v : ℕ) (ws : List ℕ) → Fits r k ws → active-word (set ws at-active v) ≡ v
+  active-word-set v ws h = let long = h .long in getD-set-same ws at-active v 0 (omega arith)
+
+  pub fits-active : (q : ℕ) (t : Bool) (ws : List ℕ) → q < k → Fits r k ws → Fits r k (set-active q t ws)
+  fits-active q t ws hq h = record {
+    long = length-set ws at-active _ ∙ h .long;
+    low = rw (active-word-set (with-bit q t (active-word ws)) ws h) (with-bit-below q t (active-word ws) k hq (h .low));
+  }
+
+  pub head-active : (q : ℕ) (t : Bool) (ws : List ℕ) → head-of (set-active q t ws) ≡ head-of ws
+  head-active q t ws = head-word at-active _ ws (omega arith)
+
+  active-set : (q : ℕ) (t : Bool) (ws : List ℕ) → Fits r k ws → (q′ : ℕ) → active-of (set-active q t ws) q′ ≡ put q t (active-of ws) q′
+  active-set q t ws h q′ = ap (λ (x : ℕ). bit x q′) (active-word-set (with-bit q t (active-word ws)) ws h) ∙ bit-put q t (active-word ws) q′
 
   pub lawful : Lawful r k (layout r k)
   lawful = record {
-    fits-entry = λ q j e ws h. set-entry-length r q j e ws ∙ h;
-    fits-C = λ j v ws h. length-set ws (at-C j) v ∙ h;
-    fits-N = λ j v ws h. length-set ws (at-N r j) v ∙ h;
+    fits-entry = fits-entry;
+    fits-C = λ j v ws h. fits-other (at-C j) v ws (omega arith) h;
+    fits-N = λ j v ws h. fits-other (at-N r j) v ws (omega arith) h;
+    fits-mark = λ q ws hq h. fits-active q (has-entry r (entry-of r ws q)) ws hq h;
     head-entry = λ q j e ws hj. same-head ws (set-entry r q j e ws) (λ i below. before-entry q j e ws i (omega arith));
     head-C = λ j v ws. head-word (at-C j) v ws (omega arith);
     head-N = λ j v ws. head-word (at-N r j) v ws (omega arith);
-    entry-entry = entry-entry;
+    head-mark = λ q ws. head-active q (has-entry r (entry-of r ws q)) ws;
+    entry-entry = λ q j e ws h hq hj. entry-entry q j e ws (h .long) hq hj;
     C-entry = λ q j e ws hj j′ l. before-entry q j e ws (at-C j′) (omega arith);
     N-entry = λ q j e ws hj j′ l. before-entry q j e ws (at-N r j′) (omega arith);
     entry-C = λ j v ws hj q′ j′. entry-word (at-C j) v ws (omega arith) q′ j′;
-    C-C = λ j v ws h hj j′ l. word-word head-length j v ws (omega arith) j′;
+    C-C = λ j v ws h hj j′ l. let long = h .long in word-word head-length j v ws (omega arith) j′;
     N-C = λ j v ws hj j′ l. getD-set-other ws (at-C j) (at-N r j′) v 0 (λ d. omega arith);
     entry-N = λ j v ws hj q′ j′. entry-word (at-N r j) v ws (omega arith) q′ j′;
     C-N = λ j v ws hj j′ l. getD-set-other ws (at-N r j) (at-C j′) v 0 (λ d. omega arith);
-    N-N = λ j v ws h hj j′ l. word-word (head-length + r) j v ws (omega arith) j′;
+    N-N = λ j v ws h hj j′ l. let long = h .long in word-word (head-length + r) j v ws (omega arith) j′;
+    entry-mark = λ q ws q′ j′. entry-word at-active _ ws (omega arith) q′ j′;
+    C-mark = λ q ws j′. getD-set-other ws at-active (at-C j′) _ 0 (λ d. omega arith);
+    N-mark = λ q ws j′. getD-set-other ws at-active (at-N r j′) _ 0 (λ d. omega arith);
+    active-mark = λ q ws h hq q′. active-set q (has-entry r (entry-of r ws q)) ws h q′;
+    active-entry = λ q j e ws q′. ap (λ (x : ℕ). bit x q′) (active-word-entry q j e ws);
+    active-C = λ j v ws q′. ap (λ (x : ℕ). bit x q′) (active-word-other (at-C j) v ws (omega arith));
+    active-N = λ j v ws q′. ap (λ (x : ℕ). bit x q′) (active-word-other (at-N r j) v ws (omega arith));
   }
 
 -- C[j] set to what it is
@@ -148,20 +190,27 @@ zeros zero i = refl
 zeros (suc n) zero = refl
 zeros (suc n) (suc i) = zeros n i
 
--- every word behind the head is 0
-fresh-word : (r k i x : ℕ) → head-length ≤ x → getD (fresh-words r k i) x 0 ≡ 0
+-- every word behind the first three is 0
+fresh-word : (r k i x : ℕ) → at-active ≤ x → getD (fresh-words r k i) x 0 ≡ 0
 unfolding fresh-words
 fresh-word r k i x l =
     let h : List ℕ = head-words (fresh-head r k i) in
-    let e : x ≡ head-length + (x - head-length) = omega arith in
+    let e : x ≡ at-active + (x - at-active) = omega arith in
     ap (λ (y : ℕ). getD (fresh-words r k i) y 0) e
-    ∙ getD-append-add h (replicate (2 * r + 3 * (r * k)) 0) (x - head-length) 0
-    ∙ zeros (2 * r + 3 * (r * k)) (x - head-length)
+    ∙ getD-append-add h (replicate (1 + 2 * r + 3 * (r * k)) 0) (x - at-active) 0
+    ∙ zeros (1 + 2 * r + 3 * (r * k)) (x - at-active)
+
+-- so no counter is active
+fresh-active : (r k i : ℕ) → active-word (fresh-words r k i) ≡ 0
+fresh-active r k i = fresh-word r k i at-active (omega arith)
+
+pub fresh-bit : (r k i q : ℕ) → active-of (fresh-words r k i) q ≡ false
+fresh-bit r k i q = ap (λ (x : ℕ). bit x q) (fresh-active r k i) ∙ no-bit q
 
 pub fresh-shows : (r k i : ℕ) → Shows (layout r k) r k (fresh-words r k i) fresh-replica
 unfolding fresh-words
 fresh-shows r k i = record {
-  fits = fresh-length;
+  fits = record { long = fresh-length; low = rw (fresh-active r k i) (pow-pos k) };
   entries = λ q j hq hj.
       same-entry (fresh-word r k i (at-entry r q j) (omega arith)) (fresh-word r k i (at-entry r q j + 1) (omega arith))
       (fresh-word r k i (at-entry r q j + 2) (omega arith));
@@ -170,4 +219,4 @@ fresh-shows r k i = record {
 }
   where
     fresh-length : length (fresh-words r k i) ≡ replica-length r k
-    fresh-length = rw (length-replicate {A = ℕ} (2 * r + 3 * (r * k)) 0) (omega arith)
+    fresh-length = rw (length-replicate {A = ℕ} (1 + 2 * r + 3 * (r * k)) 0) (omega arith)

@@ -19,6 +19,10 @@ pub mod Receivers
 pub mod AcceptedCalls
 pub mod SequenceLaws
 pub mod Claims
+-- The active counters.
+pub mod Active
+pub mod ActiveLaws
+pub mod ActiveClaims
 -- The calls beside the paper's Algorithm 1.
 pub mod Paper
 pub mod PaperLaws

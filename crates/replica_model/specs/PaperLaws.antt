@@ -72,10 +72,10 @@ effector-is : (b : List ℕ) (q s : ℕ) (u : Update) → RowOf b q → MadeBy s
     → SameBelow (cards b) (state-of q (taken s (message-of q u) (state b))) (effector u (instance-of b q))
 unfolding effector shown
 effector-is b q s (inc j p start) w e f i l =
-    let a = algorithm-1-take-increment MAX s q p start (state b) i (w .entry i l) in
+    let a = algorithm-1-take-increment MAX s q p start (state b) i (w .tables .entry i l) in
     rw e (sym (a .1), sym (a .0))
 effector-is b q s (reset R) w e f i l =
-    let a = algorithm-1-take-clear MAX s q R (state b) i (some-units (cards b) (own-card b) (C-of b) R f) (w .entry i l) in
+    let a = algorithm-1-take-clear MAX s q R (state b) i (some-units (cards b) (own-card b) (C-of b) R f) (w .tables .entry i l) in
     (sym (a .1), sym (a .0))
 
 pub move-performs : (b : List ℕ) (q s : ℕ) (u : Update) (after : List ℕ) → RowOf b q → MadeBy s u → Move b q s (message-of q u) after → PaperStep b q u after

@@ -43,7 +43,7 @@ module _ (b : List ℕ) (q : ℕ) where
 
   row-zeros : RowOf b q → (reading b q .holders ≡ 0) ↔ AllZeros b q
   row-zeros w = (
-    λ none j l. not-present (entry-of (cards b) b q j) (w .entry j l) (holders-none .0 none j l),
+    λ none j l. not-present (entry-of (cards b) b q j) (w .tables .entry j l) (holders-none .0 none j l),
     λ all. holders-none .1 (λ j l. ap present (all j l)),
   )
 

@@ -93,7 +93,7 @@ writable b m size h whole long short =
 module _ (b : List ℕ) (q w : ℕ) (k : Sending b q w) where
   -- p of a count
   p-near : let p = count-p w (C-of b (own-card b)) (entry-of (cards b) b q (own-card b)) in (w ≤ p) × (p ≤ C-of b (own-card b) + w)
-  p-near = count-p-near w (C-of b (own-card b)) (entry-of (cards b) b q (own-card b)) (omega (arith, k .row .entry (own-card b) (k .right .own), k .row .own≤C))
+  p-near = count-p-near w (C-of b (own-card b)) (entry-of (cards b) b q (own-card b)) (omega (arith, k .row .tables .entry (own-card b) (k .right .own), k .row .tables .own≤C))
 
   pub count-fits : is-amount w ≡ true → Fitting (cards b) (own-card b) (own-card b) (C-of b) (count-of b q w)
   unfolding count-message shown
@@ -101,7 +101,7 @@ module _ (b : List ℕ) (q w : ℕ) (k : Sending b q w) where
 
   pub clear-fits : Fitting (cards b) (own-card b) (own-card b) (C-of b) (clear-of b q)
   unfolding clear-message shown
-  clear-fits = present-fits (cards b) (own-card b) (C-of b) (N-of (cards b) b) (entry-of (cards b) b q) (k .row) (cards b) (omega arith)
+  clear-fits = present-fits (cards b) (own-card b) (C-of b) (N-of (cards b) b) (entry-of (cards b) b q) (k .row .tables) (cards b) (omega arith)
 
   header : HeaderBounds version-2 (own-card b) (N-of (cards b) b (own-card b) + 1) q
   header = let r = k .right in let m = k .more in let l = k .counter in omega arith
@@ -126,5 +126,5 @@ module _ (b : List ℕ) (q w : ℕ) (k : Sending b q w) where
       let short : length es ≤ most-cards = omega arith in
       writable b (clear-of b q) _
       (clear-in-range-from version-2 (own-card b) _ q es header short
-      (present-in-range (cards b) (own-card b) (C-of b) (N-of (cards b) b) (entry-of (cards b) b q) (k .row) (cards b) (omega arith) few))
+      (present-in-range (cards b) (own-card b) (C-of b) (N-of (cards b) b) (entry-of (cards b) b q) (k .row .tables) (cards b) (omega arith) few))
       (clear-entries version-2 (own-card b) _ q es short) (clear-message-length version-2 (own-card b) _ q es ∙ rw same) (omega arith)

@@ -10,6 +10,13 @@ pub struct Reading {
     pub holder_count: u64,
 }
 
+// Number 0 with the active counters as a mask; or the number of the refusal with zero.
+#[repr(C)]
+pub struct Active {
+    pub number: u64,
+    pub counters: u64,
+}
+
 // Number 0 with the message's sequence and the length written; or the number of the refusal with zeros.
 #[repr(C)]
 pub struct Sent {

@@ -11,7 +11,7 @@ use Rattle.protocol.specs.Entry.{incremented, count-starts, count-p}
 use Rattle.protocol.specs.Chassis.{increment, count-message}
 use Rattle.protocol.specs.StoreLaws.{shown}
 use Rattle.wire.specs.Message.{version-2, increment-length, message-bytes, increment-message, over}
-use Rattle.replica_model.specs.Layout.{cards, counters, own-card, C-of, N-of, entry-of, set-C, set-N, set-entry}
+use Rattle.replica_model.specs.Layout.{cards, counters, own-card, C-of, N-of, entry-of, set-C, set-N, set-entry, mark}
 use Rattle.replica_model.specs.LayoutLaws.{lawful}
 use Rattle.replica_model.specs.Format.{format-2}
 use Rattle.replica_model.specs.Calls.{SendOutcome, sent-with, count-of, words-after}
@@ -43,7 +43,7 @@ module _ (w counted : ℕ) (e : Entry) (n≤p : e .n ≤ e .p) (c≤ : e .c ≤ 
 -- the own card's entry, C and N leave room for w increments and one message
 pub own-fits : (b : List ℕ) (r q w own : ℕ) → r ≡ cards b → own ≡ own-card b → Sending b q w
     → let e = entry-of r b q own in (e .n ≤ e .p) × (e .p ≤ e .c) × (e .c ≤ C-of b own) × (C-of b own + w ≤ MAX) × (N-of r b own < MAX)
-own-fits b r q w own first mine h = rw (mine, first) (omega (arith, h .row .entry (own-card b) (h .right .own), h .row .own≤C, h .room, h .more))
+own-fits b r q w own first mine h = rw (mine, first) (omega (arith, h .row .tables .entry (own-card b) (h .right .own), h .row .tables .own≤C, h .room, h .more))
 
 -- ---- the outcome, from what the code found in the words b of the own card and made
 
@@ -64,13 +64,15 @@ module _ (b out : List ℕ) (r q w own : ℕ) (first : r ≡ cards b) (mine : ow
   -- N is found before the entry is stored, which leaves it
   pub count-applied : (messages counted : ℕ) (e made : Entry) (b₁ b₂ b₃ : List ℕ) → Sending b q w
       → messages ≡ N-of r b own → counted ≡ C-of b own → e ≡ entry-of r b q own → made ≡ incremented w (count-p w counted e) (count-starts e) counted e
-      → b₁ ≡ set-entry r q own made b → b₂ ≡ set-C own (counted + w) b₁ → b₃ ≡ set-N r own (messages + 1) b₂ → b₃ ≡ counted-outcome b out q w .words
+      → b₁ ≡ mark r q (set-entry r q own made b) → b₂ ≡ set-C own (counted + w) b₁ → b₃ ≡ set-N r own (messages + 1) b₂ → b₃ ≡ counted-outcome b out q w .words
   unfolding count-message shown
   count-applied messages counted e made b₁ b₂ b₃ h seen known found is one two three =
       let on : Receives b r q own = rw mine (sends-receives b r q w first h) in
       let M = entry-of r b q own in
       let p = count-p w (C-of b own) M in
-      let N-stays = lawful r (counters b) .N-entry q own (incremented w p (count-starts M) (C-of b own) M) b (on .card) own (on .card) in
+      let law = lawful r (counters b) in
+      let new = incremented w p (count-starts M) (C-of b own) M in
+      let N-stays : N-of r (mark r q (set-entry r q own new b)) own ≡ N-of r b own = law .N-mark q (set-entry r q own new b) own ∙ law .N-entry q own new b (on .card) own (on .card) in
       let done : b₃ ≡ words-after own (increment q w p (count-starts M)) b = three ∙ rw (two, one, is, seen, known, found) (rw N-stays at (increment-taken b r q own on w p (count-starts M))) in
       done ∙ rw (mine, first)
 

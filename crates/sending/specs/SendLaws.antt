@@ -83,10 +83,10 @@ module _ (b : List ℕ) (r q w : ℕ) (first : r ≡ cards b) (h : Sending b q w
 
   -- the numbers of the own card leave room for w increments and one message
   pub own-numbers : (entry-of r b q (own-card b) .p ≤ MAX) × (C-of b (own-card b) + w ≤ MAX) × (N-of r b (own-card b) < MAX)
-  own-numbers = rw first (omega (arith, h .row .entry (own-card b) (h .right .own), h .room, h .more))
+  own-numbers = rw first (omega (arith, h .row .tables .entry (own-card b) (h .right .own), h .room, h .more))
 
   pub sends-receives : Receives b r q (own-card b)
-  sends-receives = record { row = row-inside; card = own-below; N-room = omega (arith, own-numbers) }
+  sends-receives = record { row = row-inside; card = own-below }
 
 -- ---- the outcome, from what the code found and made
 

@@ -15,15 +15,15 @@ ghost use lib.Dec.{leb};
 ghost use lib.Seq.{sets};
 ghost use Rattle.protocol.specs.Checks.{first-failing};
 ghost use Rattle.protocol.specs.Chassis.{present-entries};
-ghost use Rattle.protocol.specs.Store.{cleared-words};
 ghost use Rattle.wire.specs.Message.{clear-length, entries-bytes};
-ghost use Rattle.replica_model.specs.Layout.{cards, counters, entry-of, layout};
+ghost use Rattle.replica_model.specs.Layout.{cards, entry-of};
 ghost use Rattle.replica_model.specs.Format.{format-2, size-of};
 ghost use Rattle.replica_model.specs.Calls.{SendOutcome, making-checks, sent-with, reading, clear-of, clear-on, ClearedOutcome, beside, with-value, read-and-clear-on};
 ghost use Rattle.replica_model.specs.Senders.{Sending};
 ghost use Rattle.replica_model.specs.PresentLaws.{entry-sent};
 ghost use Rattle.layout.specs.WordsLaws.{RowInside};
 ghost use Rattle.sending.specs.SendLaws.{made-answer};
+ghost use Rattle.sending.specs.ClearLaws.{entry-made};
 
 // The number of the first check that fails before a message is made, 0 where none does (`making-checks` has them and their order).
 fn refusal(words: &[u64], counter: u64) -> u64
@@ -84,10 +84,11 @@ fn has_room(words: &[u64], r: usize, q: usize, room: usize) -> bool
 
 // Card j's entry, if it is present: written behind the `len` before it, then cleared. Answers how many are written. As in `counting::make` each number is read where it is
 // written. n is at most p, so what the message makes of the entry is (p, p, c), which goes unless c is ahead of C; each is put by itself, so that three zeros are two stores.
+// One that stays sets the row's bit, which was taken away before the first.
 // Ruled out: an entry dropped though increments that it cancels are still to come (must-fail/dropped_ahead).
 fn make_entry(words: &mut [u64], r: usize, q: usize, j: usize, out: &mut [u8], len: usize) -> usize
     requires { ⌜ RowInside (now words) r q × (j < r) × (entry-of r (now words) q j .n ≤ entry-of r (now words) q j .p) × (clear-length (len + length (entry-sent j (entry-of r (now words) q j))) ≤ length (now out)) × (len ≤ j) ⌝ }
-    ensures { λ a. ⌜ (a ≡ len + length (entry-sent j (entry-of r (now (words .entry)) q j))) × (now (words .exit) ≡ cleared-words (layout r (counters (now (words .entry)))) q (entry-sent j (entry-of r (now (words .entry)) q j)) (now (words .entry))) × (now (out .exit) ≡ sets (now (out .entry)) (clear-length len) (entries-bytes (length (entry-sent j (entry-of r (now (words .entry)) q j))) (entry-sent j (entry-of r (now (words .entry)) q j)))) ⌝ }
+    ensures { λ a. ⌜ (a ≡ len + length (entry-sent j (entry-of r (now (words .entry)) q j))) × (now (words .exit) ≡ entry-made r q j (now (words .entry))) × (now (out .exit) ≡ sets (now (out .entry)) (clear-length len) (entries-bytes (length (entry-sent j (entry-of r (now (words .entry)) q j))) (entry-sent j (entry-of r (now (words .entry)) q j)))) ⌝ }
 {
     if words::entry_at(words, r, q, j).p == 0 {
         return len;
@@ -112,15 +113,16 @@ fn make_entry(words: &mut [u64], r: usize, q: usize, j: usize, out: &mut [u8], l
             n: e.p,
             c: e.c,
         };
-        words::put_entry(words, r, q, j, ahead);
+        words::put_present(words, r, q, j, ahead);
         return len + 1;
     }
-    let absent = Entry { p: 0, n: 0, c: 0 };
-    words::put_entry(words, r, q, j, absent);
+    words::put_absent(words, r, q, j);
     len + 1
 }
 
-// The message, where every check has passed: every present entry (line 29) goes from the words to the output, and is cleared there. None of it is held.
+// The message, where every check has passed: every present entry (line 29) goes from the words to the output, and is cleared there. None of it is held. The row's bit
+// goes before the first, and comes back with an entry that stays.
+// Ruled out: another counter's bit taken away (must-fail/quiet_counter_0).
 fn make(words: &mut [u64], r: usize, q: usize, out: &mut [u8]) -> Made
     requires { ⌜ (r ≡ cards (now words)) × Sending (now words) q 0 × (size-of (clear-of (now words) q) ≤ length (now out)) ⌝ }
     ensures { λ a. ⌜ _≡_ {A = ClearedOutcome} (record { answer = made-answer a; words = now (words .exit); out = now (out .exit) }) (with-value (reading (now (words .entry)) q .value) (sent-with format-2 (now (words .entry)) (now (out .entry)) (clear-of (now (words .entry)) q))) ⌝ }
@@ -136,6 +138,7 @@ fn make(words: &mut [u64], r: usize, q: usize, out: &mut [u8]) -> Made
     );
     let messages = words::messages_at(words, r, own);
     number::write_u32(out, encode::COUNTER_AT, q as u32);
+    words::set_quiet(words, q);
     let mut value: u64 = 0;
     let mut len: usize = 0;
     let mut j: usize = 0;

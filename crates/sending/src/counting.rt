@@ -10,7 +10,7 @@ use wire::number;
 use wire::range;
 ghost use mathlib.Core.Path.{_≡_};
 ghost use mathlib.Core.Bool.{true, cond};
-ghost use Prim.Native.Nat.{_+_, _≤_};
+ghost use Prim.Native.Nat.{_+_, _≤_, _<_};
 ghost use lib.ListN.{length};
 ghost use Rattle.protocol.specs.Limits.{MAX, most-amount};
 ghost use Rattle.protocol.specs.Checks.{first-failing};
@@ -61,10 +61,10 @@ fn next_p(e: Entry, counted: u64, amount: u64) -> u64
     counted + amount
 }
 
-// What the message makes of the own entry: c is at most what the card has counted, so the new c is the larger, and p rises above n, so nothing is removed.
+// What the message makes of the own entry: c is at most what the card has counted, so the new c is the larger, and p rises above n, so nothing is removed and the row has an entry.
 fn counted_entry(e: Entry, counted: u64, amount: u64) -> Entry
     requires { ⌜ (e .n ≤ e .p) × (e .p ≤ e .c) × (e .c ≤ counted) × (counted + amount ≤ MAX) × (1 ≤ amount) ⌝ }
-    ensures { λ a. ⌜ a ≡ incremented amount (count-p amount counted e) (count-starts e) counted e ⌝ }
+    ensures { λ a. ⌜ (a ≡ incremented amount (count-p amount counted e) (count-starts e) counted e) × (0 < a .p) ⌝ }
 {
     let c = counted + amount;
     if 0 < e.p {
@@ -114,7 +114,7 @@ fn make(words: &mut [u64], r: usize, q: usize, amount: u64, out: &mut [u8]) -> u
     number::write_u32(out, encode::START_AT, flag(!(0 < e.p)));
     let counted = words::increments_at(words, own);
     number::write_u32(out, encode::AMOUNT_AT, amount as u32);
-    words::put_entry(words, r, q, own, counted_entry(e, counted, amount));
+    words::put_present(words, r, q, own, counted_entry(e, counted, amount));
     words::set_increments(words, own, counted + amount);
     words::set_messages(words, r, own, messages + 1);
     messages + 1

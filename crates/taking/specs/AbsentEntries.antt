@@ -1,12 +1,14 @@
--- LAWS. An entry whose p is 0 is absent: so a clear needs no case of its own for it, and what a clear leaves has that again.
-use Prim.Native.Nat.{ℕ, max, _≤_, _<_}
-use mathlib.Core.Path.{_≡_, refl, sym, _∙_, subst}
+-- LAWS. An entry that a message has made larger goes or stays, by one test. And one whose p is 0 is absent: so a clear needs no case of its own for it, and what a clear
+-- leaves has that again.
+use Prim.Native.Nat.{ℕ, _+_, max, _≤_, _<_}
+use mathlib.Core.Path.{_≡_, refl, sym, ap, _∙_, subst}
+use mathlib.Core.Bool.{Bool, true, false}
 use mathlib.Core.List.{List}
 use native.Mathlib.Omega.{arith}
 use borrow.Author.Tests.{lt-ltb, le-ltb, le-leb, lt-leb, eq-eqb}
 use Rattle.protocol.specs.Cases.{by-le, by-place, by-test}
 use Rattle.protocol.specs.declared.Entry.{Entry}
-use Rattle.protocol.specs.Entry.{absent, lowered, settled, removeIf, cleared}
+use Rattle.protocol.specs.Entry.{absent, removeIf, raised, finished, incremented, lowered, settled, cleared}
 use Rattle.protocol.specs.Tables.{put, put-at, put-other, put-same-row}
 use Rattle.protocol.specs.declared.ClearEntry.{ClearEntry}
 use Rattle.replica_model.specs.Layout.{cards, counters, C-of, entry-of}
@@ -31,6 +33,27 @@ cleared-larger p c known e h =
     (λ none. rw (h (omega arith), max-zero p, max-zero c, eq-eqb p p refl)
     (by-le c known (λ l. rw (le-leb c known l, le-ltb known c l)) (λ g. rw (lt-leb c known g, lt-ltb known c g))))
 
+-- so what is larger goes where it is settled, and else stays; `known` is C, e and `received` are what the code found
+module _ (p c known : ℕ) (M : Entry) (h : Whole M) {e : Entry} {received : ℕ} (is : e ≡ lowered p c M) (same : received ≡ known) where
+  pub cleared-gone : settled received e ≡ true → absent ≡ cleared p c known M
+  cleared-gone t = ap (λ (gone : Bool). removeIf gone (lowered p c M)) (sym (rw (is, same) at t)) ∙ cleared-larger p c known M h
+
+  pub cleared-stays : settled received e ≡ false → e ≡ cleared p c known M
+  cleared-stays f = is ∙ ap (λ (gone : Bool). removeIf gone (lowered p c M)) (sym (rw (is, same) at f)) ∙ cleared-larger p c known M h
+
+-- and likewise where it is finished by an increment; what stays is present
+module _ (w p known : ℕ) (start : Bool) (M : Entry) {e : Entry} {received : ℕ} (is : e ≡ raised w p start known M) (same : received ≡ known) where
+  pub increment-gone : finished (received + w) e ≡ true → absent ≡ incremented w p start known M
+  unfolding incremented
+  increment-gone t = ap (λ (gone : Bool). removeIf gone (raised w p start known M)) (sym (rw (is, same) at t))
+
+  pub increment-stays : finished (received + w) e ≡ false → e ≡ incremented w p start known M
+  unfolding incremented
+  increment-stays f = is ∙ ap (λ (gone : Bool). removeIf gone (raised w p start known M)) (sym (rw (is, same) at f))
+
+  pub raised-some : 1 ≤ w → w ≤ p → 0 < e .p
+  raised-some some most = rw is (omega arith)
+
 -- what an entry (p, c) of a message leaves is so again
 cleared-whole : (p c known : ℕ) (e : Entry) → 1 ≤ p → Whole e → Whole (cleared p c known e)
 cleared-whole p c known e some h =
@@ -44,7 +67,7 @@ RowWhole b r q = (j : ℕ) → j < r → Whole (entry-of r b q j)
 
 pub row-whole : (b : List ℕ) (q : ℕ) → RowOf b q → RowWhole b (cards b) q
 row-whole b q h j l z =
-    let k = h .entry j l in
+    let k = h .tables .entry j l in
     let e = entry-of (cards b) b q j in
     let no-n : e .n ≡ 0 = omega arith in
     λ i. record { p = z i; n = no-n i; c = k .absent-whole z i }

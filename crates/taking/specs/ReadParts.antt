@@ -88,8 +88,8 @@ module _ (s : List ℕ) (h : Header) (header : h ≡ header-at s 0) where
           increment-received = rw (read-increment version-2 s no-clear, front .sender, front .sequence, front .counter, back .p, back .start, stands-at)
 
           -- in range
-          pub amount-most : reads version-2 s ≡ true → amount ≤ most-amount
-          amount-most read = rw stands-at (read-amount s read no-clear .1)
+          pub amount-bounds : reads version-2 s ≡ true → (1 ≤ amount) × (amount ≤ most-amount)
+          amount-bounds read = rw stands-at (read-amount s read no-clear)
 
   -- ---- a clear
 

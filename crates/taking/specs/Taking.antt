@@ -4,33 +4,35 @@ use Prim.Native.Nat.{ℕ, _+_, _-_, _*_, _≤_, _<_}
 use mathlib.Core.Path.{_≡_, refl, sym, ap, _∙_}
 use mathlib.Core.Logic.{_≢_}
 use mathlib.Core.List.{List, [], _∷_, _++_}
-use mathlib.Core.Bool.{Bool, true, false, not, _&&_, _||_, and-assoc, and-true, and-false, and-eq-true-iff}
+use mathlib.Core.Bool.{Bool, true, false, not, cond, _&&_, _||_, and-assoc, and-true, and-false, and-eq-true-iff}
 use native.Mathlib.Numerals.{add-one}
 use native.Mathlib.Omega.{arith}
 use lib.Dec.{leb, ltb, eqb}
 use lib.ListN.{length, getD, take, drop, replicate, drop-of-length-le, List·getD-append}
 use lib.Seq.{drop-cons}
 use borrow.Author.Tests.{leb-true, ltb-true, le-leb, lt-leb, ne-eqb, eqb-false, not-true, lt-ltb, le-ltb}
-use Rattle.protocol.specs.Limits.{MAX, most-cards, unreadable, implausible}
-use Rattle.protocol.specs.Cases.{by-place, by-le}
+use Rattle.protocol.specs.Limits.{MAX, most-cards, bad-row, bad-counter, unreadable, implausible}
+use Rattle.protocol.specs.Cases.{by-test, by-place, by-le, and-left, and-right}
 use Rattle.protocol.specs.Checks.{Check, or-else, checked, first-failing}
 use Rattle.protocol.specs.ChecksLaws.{first-refuses, first-passes, all-accepts, checked-append}
 use Rattle.protocol.specs.declared.ClearEntry.{ClearEntry}
 use Rattle.protocol.specs.Acceptance.{all-entries, entries-of, cards-known, increment-plausible, entry-plausible, plausible}
 use Rattle.protocol.specs.AcceptanceLaws.{known-sender, known-entries, increment-facts}
-use Rattle.protocol.specs.Chassis.{Message, clearing, counter-of}
+use Rattle.protocol.specs.Entry.{incremented}
+use Rattle.protocol.specs.Chassis.{Message, increment, clearing, counter-of}
 use Rattle.protocol.specs.StoreLaws.{CardsBelow, cleared-words, taken-words}
 use Rattle.wire.specs.Message.{version-2, no-entry, entry-at, entries-at, entry-length, entry-in-range, reads, message-at}
 use Rattle.wire.specs.declared.reader.Header.{Header}
 use Rattle.wire.specs.declared.reader.Increment.{Increment}
 use Rattle.wire.specs.EntriesLaws.{entries-at-more, length-entries-at}
 use Rattle.replica_model.specs.declared.Taken.{Taken}
-use Rattle.replica_model.specs.Layout.{cards, counters, own-card, C-of, N-of, set-N, layout}
+use Rattle.replica_model.specs.Layout.{cards, counters, own-card, C-of, N-of, entry-of, set-C, set-N, set-entry, mark, layout}
+use Rattle.replica_model.specs.LayoutLaws.{lawful}
 use Rattle.replica_model.specs.Format.{Received, received-of}
-use Rattle.replica_model.specs.Calls.{TakeOutcome, message-checks, not-taken, taken-with, take-with, take-on, words-after}
+use Rattle.replica_model.specs.Calls.{TakeOutcome, row-well-formed, message-checks, not-taken, taken-with, take-with, take-on, words-after}
 use Rattle.replica_model.specs.ClaimTerms.{Right, RowOf}
 use Rattle.replica_model.specs.RowLaws.{tests, right-from, row-facts}
-use Rattle.layout.specs.Effects.{Receives}
+use Rattle.layout.specs.Effects.{Receives, increment-taken}
 use Rattle.taking.specs.ReadParts.{entries-from, increment-from}
 
 abbrev pub no-taken : ℕ → Taken
@@ -131,21 +133,44 @@ other-sender : (r own sender : ℕ) (m : Message) → cards-known r own sender m
 unfolding cards-known
 other-sender r own sender m h = let k = simp and-eq-true-iff at h in eqb-false sender own (not-true _ (k .0 .1))
 
--- what `refusal_of` is given of message m: its counter, sender and sequence, and whether its entries name cards below r
-pub record Given (r : ℕ) (m : Received) (q s n : ℕ) (below : Bool) : Type 0 where
-  pub counter : counter-of (m .content) ≡ q
+-- 3 and 2, of counter q
+abbrev pub row-fit : List ℕ → ℕ → Bool
+row-fit b q = ltb q (counters b) && row-well-formed b q
+
+-- and the number where that is not so
+abbrev pub row-number : List ℕ → ℕ → ℕ
+row-number b q = cond (ltb q (counters b)) bad-row bad-counter
+
+-- what `sender_refusal` is given of message m: its sender and sequence, and whether its entries name cards below r
+pub record Given (r : ℕ) (m : Received) (s n : ℕ) (below : Bool) : Type 0 where
   pub sender : m .sender ≡ s
   pub sequence : m .sequence ≡ n
   pub entries : all-entries (λ e. ltb (e .card) r) (entries-of (m .content)) ≡ below
 
-pub increment-given : (r : ℕ) (h : Header) (body : Increment) (amount : ℕ) → Given r (increment-from h body amount) (h .counter) (h .sender) (h .sequence) true
+pub increment-given : (r : ℕ) (h : Header) (body : Increment) (amount : ℕ) → Given r (increment-from h body amount) (h .sender) (h .sequence) true
 unfolding all-entries
-increment-given r h body amount = record { counter = refl; sender = refl; sequence = refl; entries = refl }
+increment-given r h body amount = record { sender = refl; sequence = refl; entries = refl }
 
 module _ (b : List ℕ) (m : Received) where
   -- all but the last
   abbrev pub shared-checks : List Check
   shared-checks = take 5 (message-checks b m)
+
+  -- and behind the first two of them
+  abbrev pub sender-checks : List Check
+  sender-checks = drop 2 shared-checks
+
+  module _ (q : ℕ) (on : counter-of (m .content) ≡ q) where
+    -- the first two fail
+    pub row-refused : row-fit b q ≡ false → (first-failing shared-checks ≡ row-number b q) × (row-number b q ≢ 0)
+    row-refused fails =
+        by-test (ltb q (counters b))
+        (λ below. rw (on, below, rw below at fails) (refl, λ e. omega arith))
+        (λ above. rw (on, above) (refl, λ e. omega arith))
+
+    -- or pass
+    pub row-passed : row-fit b q ≡ true → first-failing shared-checks ≡ first-failing sender-checks
+    row-passed holds = rw (on, and-left (ltb q (counters b)) (row-well-formed b q) holds, and-right (ltb q (counters b)) (row-well-formed b q) holds)
 
   abbrev last-check : List Check
   last-check = or-else (plausible (C-of b) (own-card b) (m .sender) (m .content)) implausible ∷ []
@@ -201,11 +226,10 @@ module _ (b : List ℕ) (m : Received) where
   receives f h = record {
     row = record { right = f; first = refl; counter = h .counter };
     card = h .sender;
-    N-room = omega (arith, h .row .N≤MAX (m .sender) (h .sender));
   }
 
   pub C-most : Passed → C-of b (m .sender) ≤ MAX
-  C-most h = h .row .C≤MAX (m .sender) (h .sender)
+  C-most h = h .row .tables .C≤MAX (m .sender) (h .sender)
 
 -- ---- the whole call, of a replica that is right
 
@@ -220,8 +244,17 @@ module _ (b s : List ℕ) (f : Right b) where
   unfolding take-with
   read-judged m is read = rw (right-from b f, read, is)
 
+-- the words that an increment leaves, when its entry has been put and the row's bit is right
+pub increment-after : (b : List ℕ) (r q j n : ℕ) → Receives b r q j → n ≡ N-of r b j + 1 → (w p : ℕ) (start : Bool)
+    → set-N r j n (set-C j (C-of b j + w) (mark r q (set-entry r q j (incremented w p start (C-of b j) (entry-of r b q j)) b))) ≡ words-after j (increment q w p start) b
+increment-after b r q j n h next w p start =
+    let law = lawful r (counters b) in
+    let e = incremented w p start (C-of b j) (entry-of r b q j) in
+    let same : N-of r (mark r q (set-entry r q j e b)) j ≡ N-of r b j = law .N-mark q (set-entry r q j e b) j ∙ law .N-entry q j e b (h .card) j (h .card) in
+    rw (next, ← same) (increment-taken b r q j h w p start)
+
 -- the words that a clear leaves, when its entries have been taken
 pub clear-after : (b b′ : List ℕ) (m : Received) (r q : ℕ) (es : List ClearEntry) → r ≡ cards b → m .content ≡ clearing q es → Passed b m
-    → b′ ≡ cleared-words (layout r (counters b)) q es b → set-N r (m .sender) (m .sequence) b′ ≡ words-after (m .sender) (m .content) b
+    → b′ ≡ cleared-words (layout r (counters b)) q es b → set-N r (m .sender) (m .sequence) (mark r q b′) ≡ words-after (m .sender) (m .content) b
 unfolding words-after taken-words
 clear-after b b′ m r q es first is h same = rw (same, first, is, h .next, add-one (N-of (cards b) b (m .sender)))

@@ -16,11 +16,12 @@ ghost use Rattle.protocol.specs.Checks.{first-failing};
 ghost use Rattle.protocol.specs.Acceptance.{increment-plausible};
 ghost use Rattle.wire.specs.Message.{version-2, increment-kind, clear-kind, shortest-message};
 ghost use Rattle.wire.specs.MessageParts.{header-at};
-ghost use Rattle.replica_model.specs.Layout.{cards};
+ghost use Rattle.replica_model.specs.Layout.{cards, set-C, set-N};
 ghost use Rattle.replica_model.specs.Format.{Received};
 ghost use Rattle.replica_model.specs.Calls.{TakeOutcome, take-on};
 ghost use Rattle.replica_model.specs.ClaimTerms.{Right};
-ghost use Rattle.taking.specs.Taking.{no-taken, entry-test, Given, shared-checks};
+ghost use Rattle.layout.specs.WordsLaws.{NInside};
+ghost use Rattle.taking.specs.Taking.{no-taken, entry-test, row-fit, row-number, Given, sender-checks};
 
 // `received` is C of the sender.
 fn is_increment_plausible(received: u64, amount: u64, p: u64, start: bool) -> bool
@@ -58,19 +59,36 @@ fn refused(number: u64) -> Taken
     }
 }
 
-// The checks that both kinds have (`message-checks` has them and their order): the number of the first that fails, 0 where none does, for every
-// message of this counter, sender and sequence. `entries_below` says whether every entry names a card below r.
-fn refusal_of(words: &[u64], counter: u32, sender: u32, sequence: u64, entries_below: bool) -> u64
+// The checks that both kinds have (`message-checks` has them and their order) are asked in two parts, each small enough to be compiled into both.
+
+// 3 and 2: whether the counter is below k and its row well-formed. Only the number of a refusal asks which.
+fn is_row_fit(words: &[u64], counter: u32) -> bool
     requires { ⌜ Right (now words) ⌝ }
-    ensures { λ a. ⌜ ((m : Received) → Given (cards (now (words .entry))) m counter sender sequence «entries_below» → a ≡ first-failing (shared-checks (now (words .entry)) m)) ⌝ }
+    ensures { λ a. ⌜ a ≡ row-fit (now (words .entry)) counter ⌝ }
+{
+    if words::counters_of(words) <= counter as u64 {
+        return false;
+    }
+    words::is_row_well_formed(words, words::cards_of(words), counter as usize)
+}
+
+fn row_refusal(words: &[u64], counter: u32) -> u64
+    requires { ⌜ Right (now words) ⌝ }
+    ensures { λ a. ⌜ a ≡ row-number (now (words .entry)) counter ⌝ }
 {
     if words::counters_of(words) <= counter as u64 {
         return protocol::BAD_COUNTER;
     }
+    protocol::BAD_ROW
+}
+
+// 7, 8 and 9: the number of the first that fails, 0 where none does, for every message of this sender and sequence. `entries_below` says whether every entry names a card
+// below r.
+fn sender_refusal(words: &[u64], sender: u32, sequence: u64, entries_below: bool) -> u64
+    requires { ⌜ Right (now words) ⌝ }
+    ensures { λ a. ⌜ ((m : Received) → Given (cards (now (words .entry))) m sender sequence «entries_below» → a ≡ first-failing (sender-checks (now (words .entry)) m)) ⌝ }
+{
     let r = words::cards_of(words);
-    if !words::is_row_well_formed(words, r, counter as usize) {
-        return protocol::BAD_ROW;
-    }
     let j = sender as usize;
     if !((j < r) & (j != words::own_card(words)) & entries_below) {
         return protocol::BAD_CARD;
@@ -79,10 +97,23 @@ fn refusal_of(words: &[u64], counter: u32, sender: u32, sequence: u64, entries_b
     if sequence <= messages {
         return protocol::REPEATED;
     }
-    if messages + 1 < sequence {
+    if 1 < sequence - messages {
         return protocol::EARLY;
     }
     0
+}
+
+// An increment has come: C of its sender, what it has counted with it, and N, its sequence (line 26).
+fn received(words: &mut [u64], r: usize, j: usize, increments: u64, sequence: u64) -> Taken
+    requires { ⌜ NInside r (now words) j ⌝ }
+    ensures { λ a. ⌜ _≡_ {A = TakeOutcome} (record { answer = a; words = now (words .exit) }) (record { answer = record { number = 0; sequence = sequence }; words = set-N r j sequence (set-C j increments (now (words .entry))) }) ⌝ }
+{
+    words::set_increments(words, j, increments);
+    words::set_messages(words, r, j, sequence);
+    Taken {
+        number: 0,
+        sequence,
+    }
 }
 
 // An increment, to a replica that is right. No word is written before the last check.
@@ -100,30 +131,26 @@ fn take_increment(words: &mut [u64], message: &[u8], header: Header) -> Taken
         & range::is_amount(amount)) {
         return refused(protocol::UNREADABLE);
     }
-    let number = refusal_of(words, header.counter, header.sender, header.sequence, true);
+    if !is_row_fit(words, header.counter) {
+        return refused(row_refusal(words, header.counter));
+    }
+    let number = sender_refusal(words, header.sender, header.sequence, true);
     if number != 0 {
         return refused(number);
     }
     let sender = header.sender as usize;
     let start = body.start == 1;
-    let received = words::increments_at(words, sender);
-    if !is_increment_plausible(received, amount, body.p, start) {
+    let before = words::increments_at(words, sender);
+    if !is_increment_plausible(before, amount, body.p, start) {
         return refused(protocol::IMPLAUSIBLE);
     }
     let r = words::cards_of(words);
-    effect::apply_increment(
-        words,
-        r,
-        header.counter as usize,
-        sender,
-        amount,
-        body.p,
-        start,
-    );
-    Taken {
-        number: 0,
-        sequence: header.sequence,
+    let q = header.counter as usize;
+    if effect::put_increment(words, r, q, sender, amount, body.p, start) {
+        return received(words, r, sender, before + amount, header.sequence);
     }
+    words::mark(words, r, q);
+    received(words, r, sender, before + amount, header.sequence)
 }
 
 // A clear, likewise. It is read once, and held whole: tested, judged and applied in this one function, since one that it is passed to or returned from
@@ -171,13 +198,10 @@ fn take_clear(words: &mut [u64], message: &[u8], header: Header) -> Taken
     }
     // Cards rise, so all are below r where the last is.
     let r = words::cards_of(words);
-    let number = refusal_of(
-        words,
-        header.counter,
-        header.sender,
-        header.sequence,
-        low <= r as u64,
-    );
+    if !is_row_fit(words, header.counter) {
+        return refused(row_refusal(words, header.counter));
+    }
+    let number = sender_refusal(words, header.sender, header.sequence, low <= r as u64);
     if number != 0 {
         return refused(number);
     }
@@ -200,6 +224,7 @@ fn take_clear(words: &mut [u64], message: &[u8], header: Header) -> Taken
         effect::clear_entry(words, r, q, e);
         applied += 1;
     }
+    words::mark(words, r, q);
     words::set_messages(words, r, sender, header.sequence);
     Taken {
         number: 0,

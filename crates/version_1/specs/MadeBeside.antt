@@ -168,7 +168,7 @@ module _ {is-old : ℕ → Bool} {r k : ℕ} {st : Chassis} (now : Beside is-old
         let below : i < cards b = rw (on .cards-are) hi in
         let hq : q < k = rw (on .counters-are) at (ltb-true q (counters b) there) in
         let C≤ : C-of b i ≤ N-of r b i = rw (on .cards-are) at (C≤N-in-words now i hi i below) in
-        let N≤ : N-of r b i ≤ MAX = rw (on .cards-are) at (reached-row (cards-beside now) i q hi hq .N≤MAX i below) in
+        let N≤ : N-of r b i ≤ MAX = rw (on .cards-are) at (reached-row (cards-beside now) i q hi hq .tables .N≤MAX i below) in
         let own : N-of (cards b) b (own-card b) ≡ N-of r b i = rw (on .cards-are, on .own-is) in
         let apart = eqb-false (N-of (cards b) b (own-card b)) MAX (not-true _ more) in
         let short : N-of r b i < MAX = by-le MAX (N-of r b i) (λ l. absurd (apart (own ∙ omega arith))) (λ l. l) in

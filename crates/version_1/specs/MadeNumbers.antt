@@ -81,7 +81,7 @@ module _ {is-old : ℕ → Bool} {r k : ℕ} {st : Chassis} (now : Beside is-old
       let on = now .in-step .cards-show .heads i hi in
       let below : i < cards b = rw (on .cards-are) hi in
       let C≤ : C-of b i ≤ N = rw (on .cards-are) at (C≤N-in-words now i hi i below) in
-      let N≤ : N ≤ MAX = rw (on .cards-are) at (reached-row (cards-beside now) i q hi hq .N≤MAX i below) in
+      let N≤ : N ≤ MAX = rw (on .cards-are) at (reached-row (cards-beside now) i q hi hq .tables .N≤MAX i below) in
       by-place N MAX (λ e. rw (eq-eqb N MAX e)) (λ d. rw (ne-eqb N MAX d, le-leb (C-of b i + w) MAX (omega arith)))
 
   new-left : (mk : Making) → ByOne mk → (out : List ℕ) (size : ℕ)

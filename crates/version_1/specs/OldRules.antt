@@ -16,16 +16,15 @@ use Rattle.protocol.specs.Entry as entry
 use Rattle.protocol.specs.Chassis.{Message, increment, clearing, count-message}
 use Rattle.protocol.specs.Store.{cleared-words, taken-words, shown}
 use Rattle.protocol.specs.Acceptance as acceptance
-use Rattle.protocol.specs.AcceptanceLaws.{tests, below-facts, below-from, plausible-from}
+use Rattle.protocol.specs.AcceptanceLaws.{tests, tables-from, below-facts, below-from, plausible-from}
 use Rattle.wire.specs.Message as form
 use Rattle.wire.specs.Message.{version-1, no-entry, message-bytes, message-length}
 use Rattle.wire.specs.Claims.{message-bytes-length}
 use Rattle.conversion.specs.Conversion.{in-version}
-use Rattle.replica_model.specs.Layout.{cards, counters, own-card, C-of, N-of, entry-of, set-C, set-N, set-entry, layout}
+use Rattle.replica_model.specs.Layout.{cards, counters, own-card, C-of, N-of, entry-of, set-C, set-N, set-entry, mark, layout}
 use Rattle.replica_model.specs.Format as today-format
 use Rattle.replica_model.specs.Calls as today
 use Rattle.replica_model.specs.ClaimTerms.{RowOf}
-use Rattle.replica_model.specs.RowLaws.{row-from}
 use Rattle.chassis_model.specs.Numbered.{start-flag}
 use Rattle.version_1.specs.Rules as rules
 use Rattle.version_1.specs.Singles.{Single}
@@ -65,10 +64,10 @@ on-wire-length s n m = message-bytes-length (rules.on-wire s n m) ∙ on-wire-si
 pub words-after-is : (s : ℕ) (m : Message) (b : List ℕ) → Single m → rules.words-after s m b ≡ today.words-after s m b
 unfolding rules.words-after rules.incremented today.words-after taken-words entry.incremented
 words-after-is s (increment q w p start) b one =
-    let after : List ℕ = set-C s (C-of b s + 1) (set-entry (cards b) q s (rules.incremented p start (C-of b s) (entry-of (cards b) b q s)) b) in
+    let after : List ℕ = set-C s (C-of b s + 1) (mark (cards b) q (set-entry (cards b) q s (rules.incremented p start (C-of b s) (entry-of (cards b) b q s)) b)) in
     rw one (ap (λ (n : ℕ). set-N (cards b) s n after) (add-one (N-of (cards b) b s)))
 words-after-is s (clearing q es) b one =
-    ap (λ (n : ℕ). set-N (cards b) s n (cleared-words (layout (cards b) (counters b)) q es b)) (add-one (N-of (cards b) b s))
+    ap (λ (n : ℕ). set-N (cards b) s n (mark (cards b) q (cleared-words (layout (cards b) (counters b)) q es b))) (add-one (N-of (cards b) b s))
 
 pub count-of-is : (b : List ℕ) (q : ℕ) → rules.count-of b q ≡ today.count-of b q 1
 unfolding rules.count-of count-message shown
@@ -77,9 +76,9 @@ count-of-is b q = by-test (present (entry-of (cards b) b q (own-card b))) (λ e.
 -- ---- what it asks
 
 pub row-from-today : (b : List ℕ) (q : ℕ) → RowOf b q → ((j : ℕ) → j < cards b → C-of b j ≤ N-of (cards b) b j) → rules.row-well-formed b q ≡ true
-unfolding rules.row-well-formed today.row-well-formed acceptance.tables-well-formed acceptance.card-well-formed
+unfolding rules.row-well-formed acceptance.tables-well-formed acceptance.card-well-formed
 row-from-today b q row few =
-    let h = simp tests at (row-from b q row) in
+    let h = simp tests at (tables-from (cards b) (own-card b) (C-of b) (N-of (cards b) b) (entry-of (cards b) b q) (row .tables)) in
     simp tests
     (below-from (cards b) _ (λ j l. let f = simp tests at (below-facts (cards b) _ (h .0) j l) in simp tests ((few j l, f .0 .1), f .1)), h .1)
 

@@ -16,7 +16,7 @@ use Rattle.protocol.specs.Store.{cleared-words}
 use Rattle.wire.specs.declared.Message as wire
 use Rattle.wire.specs.Message as form
 use Rattle.wire.specs.Message.{version-1, increment-kind, increment-length, clear-length, message-at, message-bytes, over}
-use Rattle.replica_model.specs.Layout.{cards, counters, own-card, C-of, N-of, entry-of, set-C, set-N, set-entry, layout}
+use Rattle.replica_model.specs.Layout.{cards, counters, own-card, C-of, N-of, entry-of, set-C, set-N, set-entry, mark, layout}
 use Rattle.replica_model.specs.Format.{Received, Format}
 use Rattle.replica_model.specs.Calls.{right, SendOutcome, not-sent, own-message, clear-of, TakeOutcome, not-taken}
 
@@ -73,14 +73,16 @@ incremented p start known e =
     let e₁ = larger e (record { p = p; n = cond (start || not (present e)) (p - 1) 0; c = known + 1 }) in
     removeIf (eqb (e₁ .p) (e₁ .n) && eqb (e₁ .c) (known + 1)) e₁
 
--- the words when card s's message has been taken: "C[j] becomes c."; "Each message raises the sender's N by one."
+-- the words when card s's message has been taken: "C[j] becomes c."; "Each message raises the sender's N by one." A card of version 1 has no word of active
+-- counters: "compared with the later words in both", it is worked out from the rows (`mark`), and no check of version 1 looks at a row's bit.
+-- (1 is today's, so a bit at k or above is 1 to it too; no run reaches that.)
 unfoldable pub words-after : ℕ → Message → List ℕ → List ℕ
 words-after s (increment q w p start) b =
     let r = cards b in
-    set-N r s (N-of r b s + 1) (set-C s (C-of b s + 1) (set-entry r q s (incremented p start (C-of b s) (entry-of r b q s)) b))
+    set-N r s (N-of r b s + 1) (set-C s (C-of b s + 1) (mark r q (set-entry r q s (incremented p start (C-of b s) (entry-of r b q s)) b)))
 words-after s (clearing q es) b =
     let r = cards b in
-    set-N r s (N-of r b s + 1) (cleared-words (layout r (counters b)) q es b)
+    set-N r s (N-of r b s + 1) (mark r q (cleared-words (layout r (counters b)) q es b))
 
 -- ---- count and clear: "1, 3, 2, 4, 5; 4 is own N = MAX"
 

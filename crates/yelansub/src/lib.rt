@@ -3,6 +3,7 @@ mod records;
 
 use chassis_model::Delivered;
 use chassis_model::Span;
+use replica_model::Active;
 use replica_model::Cleared;
 use replica_model::Reading;
 use replica_model::Sent;
@@ -12,7 +13,7 @@ use wire::Written;
 ghost use mathlib.Core.Path.{_≡_};
 ghost use Rattle.wire.specs.Message.{read-message, WriteOutcome, write-message};
 ghost use Rattle.conversion.specs.Conversion.{to-version-2-on, to-version-1-on};
-ghost use Rattle.replica_model.specs.Calls.{OpenOutcome, open-on, read-on, SendOutcome, count-on, clear-on, ClearedOutcome, read-and-clear-on, TakeOutcome, take-on};
+ghost use Rattle.replica_model.specs.Calls.{OpenOutcome, open-on, read-on, active-on, SendOutcome, count-on, clear-on, ClearedOutcome, read-and-clear-on, TakeOutcome, take-on};
 ghost use Rattle.chassis_model.specs.Log.{waiting-span};
 ghost use Rattle.chassis_model.specs.Run.{RunOutcome, run-bytes-on};
 ghost use Rattle.chassis_model.specs.Pending.{DeliverOutcome, deliver-pending-on};
@@ -31,6 +32,14 @@ pub extern "C" fn yelansub_read(words: &[u64], counter: u64) -> Reading
     ensures { λ a. ⌜ a ≡ read-on (now (words .entry)) counter ⌝ }
 {
     replica::read::read(words, counter)
+}
+
+// Ruled out: another word of the replica's.
+#[no_mangle]
+pub extern "C" fn yelansub_active_counters(words: &[u64]) -> Active
+    ensures { λ a. ⌜ a ≡ active-on (now (words .entry)) ⌝ }
+{
+    replica::read::active_counters(words)
 }
 
 // Ruled out: a clear in place of a count, another amount, and a message that is not written.

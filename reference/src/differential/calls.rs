@@ -1,25 +1,48 @@
 //! Chains of random calls on one replica, good and damaged.
 
-use super::{cleared, generate, number, reading, taken, unread, Guarded, Tally};
+use super::{active, cleared, found_by_reading, generate, number, reading, taken, unread};
+use super::{Guarded, Tally};
 use super::{Sending, CLEAR, COUNT, READ_AND_CLEAR, SENDING};
 use crate::library;
 use crate::limits::*;
 use crate::message::{self, Body, PLAIN};
 use crate::random::Random;
-use crate::replica::{self, increments_at, received_from, CARDS_AT, COUNTERS_AT, OWN_AT};
+use crate::replica::{self, increments_at, received_from};
+use crate::replica::{ACTIVE_AT, CARDS_AT, COUNTERS_AT, OWN_AT};
 
 const CALLS: u64 = 6;
+const COUNTERS: u64 = MOST_COUNTERS as u64;
 
 /// Numbers that each call can give.
 pub const OPEN: &[u64] = &[OK, BAD_REPLICA];
 pub const READ: &[u64] = &[OK, BAD_REPLICA, BAD_COUNTER, BAD_ROW];
+pub const ACTIVE: &[u64] = &[OK, BAD_REPLICA];
 pub const COUNTED: &[u64] =
     &[OK, BAD_REPLICA, BAD_COUNTER, BAD_AMOUNT, BAD_ROW, EXHAUSTED, SHORT_OUTPUT];
 pub const CLEARED: &[u64] = &[OK, BAD_REPLICA, BAD_COUNTER, BAD_ROW, EXHAUSTED, SHORT_OUTPUT];
 pub const TAKE: &[u64] =
     &[OK, BAD_REPLICA, UNREADABLE, BAD_COUNTER, BAD_ROW, BAD_CARD, REPEATED, EARLY, IMPLAUSIBLE];
 
-/// `cases` replicas, a few calls on each.
+/// The calls that look at a counter's row, as they are tallied.
+const LOOKS_READ: u64 = 0;
+const LOOKS_COUNT: u64 = 1;
+const LOOKS_CLEAR: u64 = 2;
+const LOOKS_READ_AND_CLEAR: u64 = 3;
+const LOOKS_INCREMENT: u64 = 4;
+const LOOKS_TAKEN_CLEAR: u64 = 5;
+const LOOKS: [u64; 6] = [
+    LOOKS_READ,
+    LOOKS_COUNT,
+    LOOKS_CLEAR,
+    LOOKS_READ_AND_CLEAR,
+    LOOKS_INCREMENT,
+    LOOKS_TAKEN_CLEAR,
+];
+
+/// Which of these calls was made, and the counter.
+type Looked = Option<(u64, u64)>;
+
+/// `cases` replicas, a few calls on each. Which counters are active is asked before and after each.
 pub fn random_calls(seed: u64, cases: u64) -> Tally {
     let mut tally = Tally::default();
     for case in 0..cases {
@@ -30,13 +53,16 @@ pub fn random_calls(seed: u64, cases: u64) -> Tally {
         }
         let mut pair =
             Pair { seed, case, ours: Guarded::new(&words), theirs: Guarded::new(&words) };
+        pair.active(&mut tally);
         for _ in 0..CALLS {
             pair.call(&mut random, &mut tally);
+            pair.active(&mut tally);
             if random.percent(4) {
                 let mut words = pair.ours.get().to_vec();
                 generate::damage_replica(&mut random, &mut words);
                 pair.ours = Guarded::new(&words);
                 pair.theirs = Guarded::new(&words);
+                pair.active(&mut tally);
             }
         }
     }
@@ -52,6 +78,17 @@ pub fn require_all(tally: &Tally) {
         tally.require(call.name, if call.counts() { COUNTED } else { CLEARED });
     }
     tally.require("take", TAKE);
+    tally.require("active", ACTIVE);
+    // Whether a read of every row has found the same counters, or was refused or has found others.
+    tally.require("active, by reading", &[0, 1]);
+    // The highest bit, of 64 counters, or of 63 or too many: then it is refused.
+    tally.require("active, bit 63", ACTIVE);
+    for name in ["high bit", "bit without entry", "entry without bit", "wrong bit of another"] {
+        tally.require(name, &LOOKS);
+    }
+    tally.require("bit set", &[LOOKS_COUNT, LOOKS_INCREMENT, LOOKS_TAKEN_CLEAR]);
+    let clearing = [LOOKS_CLEAR, LOOKS_READ_AND_CLEAR, LOOKS_INCREMENT, LOOKS_TAKEN_CLEAR];
+    tally.require("bit cleared", &clearing);
     tally.require("read, C above N", &[OK]);
     let (counted, refused): (Vec<u64>, Vec<u64>) =
         generate::AMOUNTS.into_iter().partition(|amount| is_amount(*amount));
@@ -83,7 +120,7 @@ struct Pair {
 impl Pair {
     fn call(&mut self, random: &mut Random, tally: &mut Tally) {
         let before = self.ours.clone();
-        let (call, number) = match random.below(22) {
+        let (call, number, looked) = match random.below(22) {
             0 => self.open(random),
             1..=3 => self.read(random, tally),
             4..=7 => self.send(random, &COUNT, tally),
@@ -100,13 +137,36 @@ impl Pair {
             );
         }
         tally.note(call, number);
+        if let Some((looks, counter)) = looked {
+            let words = [before.get(), self.theirs.get()];
+            if let Err(trouble) = note_bits(tally, words, looks, counter, number) {
+                panic!("{trouble}, {call}, {number}: seed {seed} case {case}");
+            }
+        }
+    }
+
+    /// Which counters are active, of words that may be anything: their fourth, and no row.
+    fn active(&self, tally: &mut Tally) {
+        let words = self.theirs.get();
+        let theirs = library::active_counters(words);
+        self.agree("active", active(replica::active(self.ours.get())), theirs);
+        self.agree("words that active looked at", &self.ours, &self.theirs);
+        tally.note("active", theirs.number);
+        let word = words.get(ACTIVE_AT).copied().unwrap_or(0);
+        if word >> 63 == 1 && words[COUNTERS_AT] >= COUNTERS - 1 {
+            tally.note("active, bit 63", theirs.number);
+        }
+        if theirs.number == OK {
+            self.agree("active", word, theirs.counters);
+            tally.note("active, by reading", u64::from(found_by_reading(words) != Some(word)));
+        }
     }
 
     fn agree<T: PartialEq + std::fmt::Debug>(&self, call: &str, ours: T, theirs: T) {
         assert_eq!(ours, theirs, "{call}: seed {} case {}", self.seed, self.case);
     }
 
-    fn open(&mut self, random: &mut Random) -> (&'static str, u64) {
+    fn open(&mut self, random: &mut Random) -> (&'static str, u64, Looked) {
         let word = |at: usize| self.ours.get().get(at).copied().unwrap_or(0);
         let mut shape = [word(CARDS_AT), word(COUNTERS_AT), word(OWN_AT)];
         if random.percent(40) {
@@ -116,10 +176,10 @@ impl Pair {
         let ours = number(replica::open(self.ours.get_mut(), cards, counters, own));
         let theirs = library::open(self.theirs.get_mut(), cards, counters, own);
         self.agree("open", ours, theirs);
-        ("open", theirs)
+        ("open", theirs, None)
     }
 
-    fn read(&mut self, random: &mut Random, tally: &mut Tally) -> (&'static str, u64) {
+    fn read(&mut self, random: &mut Random, tally: &mut Tally) -> (&'static str, u64, Looked) {
         let counter = generate::counter(random, self.ours.get());
         let ours = reading(replica::read(self.ours.get(), counter));
         let theirs = library::read(self.theirs.get(), counter);
@@ -129,7 +189,7 @@ impl Pair {
         if ours.number == OK && (0..words[CARDS_AT] as usize).any(above) {
             tally.note("read, C above N", theirs.number);
         }
-        ("read", theirs.number)
+        ("read", theirs.number, Some((LOOKS_READ, counter)))
     }
 
     fn send(
@@ -137,7 +197,7 @@ impl Pair {
         random: &mut Random,
         call: &Sending,
         tally: &mut Tally,
-    ) -> (&'static str, u64) {
+    ) -> (&'static str, u64, Looked) {
         let before = self.ours.get().to_vec();
         let counter = generate::counter(random, &before);
         let amount = generate::count_amount(random, &before);
@@ -159,7 +219,12 @@ impl Pair {
         if call.counts() && room >= INCREMENT_BYTES && replica::read(&before, counter).is_ok() {
             note_count(tally, &before, amount, theirs.number);
         }
-        (call.name, theirs.number)
+        let looks = match call.kind {
+            STEP_COUNT => LOOKS_COUNT,
+            STEP_CLEAR => LOOKS_CLEAR,
+            _ => LOOKS_READ_AND_CLEAR,
+        };
+        (call.name, theirs.number, Some((looks, counter)))
     }
 
     /// Output bytes: too few by one, exactly enough, or any number.
@@ -173,7 +238,7 @@ impl Pair {
         random.below(LONGEST_MESSAGE as u64 + 60) as usize
     }
 
-    fn take(&mut self, random: &mut Random, tally: &mut Tally) -> (&'static str, u64) {
+    fn take(&mut self, random: &mut Random, tally: &mut Tally) -> (&'static str, u64, Looked) {
         let before = self.ours.get().to_vec();
         let draft = generate::draft(random, &before);
         let mut bytes = draft.bytes();
@@ -188,7 +253,60 @@ impl Pair {
         if replica::take(&mut before.clone(), &[]) == Err(UNREADABLE) && bytes == draft.bytes() {
             note_take(tally, &before, &draft, theirs.number);
         }
-        ("take", theirs.number)
+        let looks =
+            if draft.kind == MESSAGE_INCREMENT { LOOKS_INCREMENT } else { LOOKS_TAKEN_CLEAR };
+        let looked = (bytes == draft.bytes()).then_some((looks, draft.counter.into()));
+        ("take", theirs.number, looked)
+    }
+}
+
+/// Of words that are a replica but for their bits, where the counter's row is well-formed but for
+/// its own: what its bits are, and what the call has moved of them.
+fn note_bits(
+    tally: &mut Tally,
+    [before, after]: [&[u64]; 2],
+    looks: u64,
+    counter: u64,
+    number: u64,
+) -> Result<(), &'static str> {
+    let mut right = before.to_vec();
+    if right.len() <= ACTIVE_AT {
+        return Ok(());
+    }
+    right[ACTIVE_AT] = 0;
+    if replica::active(&right).is_err() || counter >= right[COUNTERS_AT] {
+        return Ok(());
+    }
+    (0..right[COUNTERS_AT] as usize).for_each(|q| replica::mark(&mut right, q));
+    if replica::read(&right, counter).is_err() {
+        return Ok(());
+    }
+    let (bits, due) = (before[ACTIVE_AT], right[ACTIVE_AT]);
+    let own = 1 << counter;
+    if right[COUNTERS_AT] < u64::from(u64::BITS) && bits >> right[COUNTERS_AT] != 0 {
+        tally.note("high bit", looks);
+        return if number == BAD_REPLICA { Ok(()) } else { Err("a high bit") };
+    }
+    if (bits ^ due) & own != 0 {
+        if number == BAD_ROW {
+            let name = if bits & own != 0 { "bit without entry" } else { "entry without bit" };
+            tally.note(name, looks);
+        }
+        return if number == OK { Err("a bit that disagrees") } else { Ok(()) };
+    }
+    if number != OK {
+        return if number == BAD_ROW { Err("right bits") } else { Ok(()) };
+    }
+    if bits != due {
+        tally.note("wrong bit of another", looks);
+    }
+    match bits ^ after[ACTIVE_AT] {
+        0 => Ok(()),
+        moved if moved == own => {
+            tally.note(if bits & own == 0 { "bit set" } else { "bit cleared" }, looks);
+            Ok(())
+        }
+        _ => Err("another's bit has moved"),
     }
 }
 

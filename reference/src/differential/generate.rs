@@ -4,7 +4,8 @@ use crate::chassis::{self, Buffers, Step};
 use crate::limits::*;
 use crate::message::{Body, Entries, Entry, Message, VERSIONS};
 use crate::random::Random;
-use crate::replica::{self, entry_at, increments_at, messages_at, CARDS_AT, COUNTERS_AT, OWN_AT};
+use crate::replica::{self, entry_at, increments_at, messages_at};
+use crate::replica::{ACTIVE_AT, CARDS_AT, COUNTERS_AT, OWN_AT};
 
 const CARDS: u64 = MOST_CARDS as u64;
 const COUNTERS: u64 = MOST_COUNTERS as u64;
@@ -48,6 +49,8 @@ pub fn shape(random: &mut Random) -> (usize, usize) {
         0 => (MOST_CARDS, MOST_COUNTERS),
         1 => (1, MOST_COUNTERS),
         2 => (MOST_CARDS, 1),
+        // The last bit is no counter's.
+        7 => (random.between(1, 2) as usize, MOST_COUNTERS - 1),
         3..=6 => (random.between(1, CARDS) as usize, random.between(1, 8) as usize),
         _ => (random.between(1, 4) as usize, random.between(1, 3) as usize),
     }
@@ -124,6 +127,9 @@ fn well_formed(random: &mut Random, cards: usize, counters: usize) -> Vec<u64> {
         };
         words[entry_at(cards, counter, card)].copy_from_slice(&[p, n, c]);
     }
+    for counter in 0..counters {
+        replica::mark(&mut words, counter);
+    }
     words
 }
 
@@ -145,10 +151,10 @@ pub fn replica(random: &mut Random) -> Vec<u64> {
     }
 }
 
-/// One wound: a bit, a word, a header word or the length.
+/// One wound: a bit, a word, a header word, the bit of a counter, there or not, or the length.
 pub fn damage_replica(random: &mut Random, words: &mut Vec<u64>) {
     let len = words.len() as u64;
-    match random.below(9) {
+    match random.below(12) {
         0 | 1 if len > 0 => words[random.below(len) as usize] ^= 1 << random.below(64),
         2 | 3 if len > HEAD_WORDS as u64 => {
             // A C or an N.
@@ -158,6 +164,10 @@ pub fn damage_replica(random: &mut Random, words: &mut Vec<u64>) {
         4 if len > 0 => words[random.below(len) as usize] = random.pick(&EDGES),
         5 if len > HEAD_WORDS as u64 => {
             words[random.below(HEAD_WORDS as u64) as usize] = random.pick(&EDGES)
+        }
+        8 if len > HEAD_WORDS as u64 => words[ACTIVE_AT] ^= 1 << random.below(64),
+        10 | 11 if len > HEAD_WORDS as u64 => {
+            words[ACTIVE_AT] ^= 1 << random.below(words[COUNTERS_AT].clamp(1, COUNTERS))
         }
         6 => words.truncate(random.below(len.max(1)) as usize),
         7 => {

@@ -20,6 +20,7 @@ use std::fmt;
 use crate::chassis::{Answer, Step};
 use crate::ledger::Ledger;
 use crate::limits::{OK, STEP_CLEAR, STEP_COUNT, STEP_READ_AND_CLEAR};
+use crate::replica::COUNTERS_AT;
 use crate::{library, replica};
 
 /// The seed of a series: YELANSUB_SEED, or the usual one.
@@ -99,10 +100,13 @@ impl<T: Copy + From<u8>> Guarded<T> {
 
 /// A read of every counter of the card is accepted and gives the ledger's value and holders. The
 /// counter is quiet exactly when the ledger's two sets of the card are equal: nothing received
-/// counts there, and nothing that is still to come is cancelled there.
+/// counts there, and nothing that is still to come is cancelled there. It is active exactly when the
+/// read has holders, and the ledger holding cards.
 fn against_ledgers(ledgers: &[Ledger], card: usize, words: &[u64], place: Place) {
+    let mut held = 0;
     for (counter, ledger) in ledgers.iter().enumerate() {
         let holders = ledger.holders(card);
+        held |= u64::from(holders != 0) << counter;
         let due = library::Reading {
             number: OK,
             value: ledger.value(card),
@@ -115,6 +119,22 @@ fn against_ledgers(ledgers: &[Ledger], card: usize, words: &[u64], place: Place)
         let quiet = [equal, read.value == 0 && !ahead];
         assert_eq!(quiet, [read.is_quiet(); 2], "card {card} counter {counter}: {}", place());
     }
+    let due = library::Active { number: OK, counters: held };
+    assert_eq!(library::active_counters(words), due, "active, card {card}: {}", place());
+    assert_eq!(found_by_reading(words), Some(held), "read, card {card}: {}", place());
+}
+
+/// The counters whose read has holders; none where a read is refused.
+fn found_by_reading(words: &[u64]) -> Option<u64> {
+    let mut found = 0;
+    for counter in 0..words[COUNTERS_AT] {
+        let read = library::read(words, counter);
+        if read.number != OK {
+            return None;
+        }
+        found |= u64::from(read.holders != 0) << counter;
+    }
+    Some(found)
 }
 
 /// The reference's answer to read in the library's shape.
@@ -127,6 +147,14 @@ pub fn reading(answer: Result<replica::Reading, u64>) -> library::Reading {
             holder_count: read.holder_count,
         },
         Err(number) => library::Reading { number, ..Default::default() },
+    }
+}
+
+/// The reference's answer to which counters are active in the library's shape.
+pub fn active(answer: Result<u64, u64>) -> library::Active {
+    match answer {
+        Ok(counters) => library::Active { number: OK, counters },
+        Err(number) => library::Active { number, counters: 0 },
     }
 }
 

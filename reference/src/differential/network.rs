@@ -76,6 +76,9 @@ pub fn require_all(tally: &Tally) {
     tally.require("counters", &doublings.map(|power| 1 << power).collect::<Vec<_>>());
     tally.require("entries", &(0..=MOST_CARDS as u64).collect::<Vec<_>>());
     tally.require("start", &[NO_START, FIRST_START, NEW_START]);
+    // How many counters of a card are active; 3 is any from there on. And whether the last of 64 is.
+    tally.require("active", &[0, 1, 2, 3]);
+    tally.require("last active", &[0, 1]);
     for holders in 0..3 {
         // Held with a value of 0, so not quiet: a clear has come before all that it clears.
         assert!(tally.times("zero", holders) > 0, "never 0 with {holders} holders");
@@ -548,6 +551,11 @@ impl History<'_> {
             let words = &self.theirs.words[card];
             self.agree("words", words, &Guarded::new(&self.ours[card]));
             against_ledgers(&self.ledgers, card, words.get(), &|| self.place());
+            let active = library::active_counters(words.get()).counters;
+            self.tally.note("active", active.count_ones().min(3).into());
+            if self.counters == MOST_COUNTERS {
+                self.tally.note("last active", active >> (MOST_COUNTERS - 1));
+            }
             for counter in 0..self.counters {
                 let read = library::read(self.theirs.words[card].get(), counter as u64);
                 let name = if read.value == 0 { "zero" } else { "counting" };

@@ -3,14 +3,15 @@
 //! alone is told from N in the words and from its take, in deliveries made one by one.
 
 use super::alone::{series, After, List};
-use super::{against_ledgers, delivered, generate, logs, runs, Guarded, Place, Tally};
+use super::{active, against_ledgers, delivered, found_by_reading, generate, logs, runs};
+use super::{Guarded, Place, Tally};
 use crate::chassis::{self, Step};
 use crate::ledger::Ledger;
 use crate::library::{self, Delivered, Reading};
 use crate::limits::*;
 use crate::message::{self, Body, Entries, Entry, Message, CURRENT};
 use crate::random::Random;
-use crate::replica::{self, entry_at, increments_at, messages_at, received_from};
+use crate::replica::{self, entry_at, increments_at, messages_at, received_from, ACTIVE_AT};
 
 pub const CALL: &[u64] = &[OK, BAD_REPLICA, BAD_ROW, BAD_SIZES, BAD_LOG];
 /// What take can answer to a message that waits, where the call is not refused.
@@ -196,10 +197,62 @@ fn compare(lent: &Lent, most: u64, place: Place, tally: &mut Tally) -> (Delivere
         assert_eq!(theirs.words, lent.words, "refused, most {most}: {}", place());
     }
     tally.note("call", answer.number);
+    if answer.number != BAD_SIZES {
+        actives(lent, place);
+        actives(&theirs, place);
+        note_bits(tally, lent, answer.number);
+    }
+    if answer.number == OK {
+        for card in 0..lent.cards as usize {
+            let counters = library::active_counters(theirs.replica(card)).counters;
+            let found = found_by_reading(theirs.replica(card));
+            assert_eq!(found, Some(counters), "active, most {most}: {}", place());
+        }
+    }
     if [OK, BAD_LOG].contains(&answer.number) && lent.has_plain_message() {
         tally.note("version 1", answer.number);
     }
     (answer, theirs)
+}
+
+/// Which counters of every card are active, on both sides, whatever the words hold.
+fn actives(lent: &Lent, place: Place) {
+    for card in 0..lent.cards as usize {
+        let words = lent.replica(card);
+        let theirs = library::active_counters(words);
+        assert_eq!(theirs, active(replica::active(words)), "active, card {card}: {}", place());
+    }
+}
+
+/// Where bits of active counters are all that is wrong: what they are, and the answer.
+fn note_bits(tally: &mut Tally, lent: &Lent, number: u64) {
+    let mut right = lent.clone();
+    for card in 0..lent.cards as usize {
+        let words = right.replica_mut(card);
+        if words[..ACTIVE_AT] != [lent.cards, lent.counters, card as u64] {
+            return;
+        }
+        words[ACTIVE_AT] = 0;
+        (0..lent.counters as usize).for_each(|counter| replica::mark(words, counter));
+    }
+    let turned = |card: usize| {
+        let (bits, due) = (lent.replica(card)[ACTIVE_AT], right.replica(card)[ACTIVE_AT]);
+        [bits & !due, due & !bits]
+    };
+    let [without_entry, without_bit] = (0..lent.cards as usize)
+        .map(turned)
+        .fold([0, 0], |[a, b], [more, less]| [a | more, b | less]);
+    if without_entry | without_bit == 0 || right.clone().by_reference(0).number != OK {
+        return;
+    }
+    let high = lent.counters < u64::from(u64::BITS) && without_entry >> lent.counters != 0;
+    let name = match (high, without_entry) {
+        (true, _) => "high bit",
+        (_, 0) => "entry without bit",
+        _ if without_bit == 0 => "bit without entry",
+        _ => "both",
+    };
+    tally.note(name, number);
 }
 
 /// What has to hold of an accepted call, whatever the reference says.
@@ -435,6 +488,10 @@ pub fn require_states(tally: &Tally) {
     tally.require("declined", DECLINED);
     tally.require("passed over", &[0, 1]);
     tally.require("version 1", &[BAD_LOG]);
+    tally.require("high bit", &[BAD_REPLICA]);
+    for name in ["bit without entry", "entry without bit", "both"] {
+        tally.require(name, &[BAD_ROW]);
+    }
 }
 
 /// r and k, seldom large.
@@ -516,6 +573,9 @@ fn any_replica(random: &mut Random, own: usize, counters: usize, made: &[u64]) -
             words[entry_at(cards, counter, card)].copy_from_slice(&[p, n, c]);
         }
     }
+    for counter in 0..counters {
+        replica::mark(&mut words, counter);
+    }
     words
 }
 
@@ -571,12 +631,12 @@ fn messages_of(mut log: &[u8]) -> Vec<Message> {
     messages
 }
 
-/// One wound to a head, a row, an N or a log; the sizes stay.
+/// One wound to a head, a row, the bits, an N or a log; the sizes stay.
 fn damage(random: &mut Random, lent: &mut Lent) {
     let (cards, counters) = (lent.cards as usize, lent.counters as usize);
     let card = random.below(lent.cards) as usize;
     let other = random.below(lent.cards) as usize;
-    match random.below(16) {
+    match random.below(19) {
         0 => {
             let at = random.below(HEAD_WORDS as u64) as usize;
             lent.replica_mut(card)[at] = random.pick(&generate::EDGES);
@@ -627,6 +687,11 @@ fn damage(random: &mut Random, lent: &mut Lent) {
                 (0..cards).flat_map(|card| lent.log(card)[..left as usize].to_vec()).collect();
             lent.log_bytes = left;
             lent.logs = Guarded::new(&logs);
+        }
+        // A bit of the active counters, of one that is there as a rule.
+        11..=13 => {
+            let of = random.pick(&[lent.counters, lent.counters, MOST_COUNTERS as u64]);
+            lent.replica_mut(card)[ACTIVE_AT] ^= 1 << random.below(of);
         }
         _ => {
             let mut messages = messages_of(lent.log(card));

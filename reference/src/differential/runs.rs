@@ -101,6 +101,8 @@ pub fn require_all(tally: &Tally) {
     tally.require("records", RUN);
     tally.require("step", STEP);
     tally.require("value", &[0, 1]);
+    // How many counters of a card are active; 3 is any from there on.
+    tally.require("active", &[0, 1, 2, 3]);
     let amounts = generate::STEP_AMOUNTS;
     for (kind, accepted, refused) in AMOUNTS_OF {
         let fits = |amount: &u32| Step { kind, amount: *amount, ..Step::clear(0, 0) }.amount_fits();
@@ -160,6 +162,8 @@ fn compare(lent: &Lent, place: Place, tally: &mut Tally) {
     for (card, words) in theirs.words.get().chunks_exact(replica_words(cards, counters)).enumerate()
     {
         against_ledgers(&ledgers, card, words, place);
+        let active = library::active_counters(words).counters;
+        tally.note("active", active.count_ones().min(3).into());
     }
     waiting_in_logs(&theirs, &ledgers[0], place);
 }

@@ -1,7 +1,8 @@
--- Words too few for a head are no replica; else the head says what is asked.
+-- Words too few for a head are no replica; else the head says what is asked, and the word of bits.
+use mathlib.Core.Path.{sym, _∙_}
+use borrow.Author.Tests.{not-true, not-false}
+use Rattle.layout.specs.WordsLaws.{short-wrong, fits-wrong, fits-counters, right-by-bits}
 use borrow.Author.Needs.{needs}
-use Rattle.replica_model.specs.Calls.{right}
-use Rattle.layout.specs.WordsLaws.{short-wrong}
 use Rattle.layout.proofs.words.is_right.Statement.{statement}
 use Rattle.layout.proofs.words.is_right.Tie as tie
 
@@ -21,8 +22,26 @@ fits-requires : tie.Need-fits-requires
 fits-requires c κs = search needs
 
 returns-2 : tie.Need-returns-2
-unfolding right
-returns-2 c = c .fits2 .ensures
+returns-2 c = fits-wrong _ (sym (c .before .fits2 .ensures) ∙ not-true _ (c .if2 .taken))
+
+shared-slice-read-is-low : tie.Need-shared-slice-read-is-low
+shared-slice-read-is-low c = search needs
+
+shared-slice-read-index : tie.Need-shared-slice-read-index
+shared-slice-read-index c = search needs
+
+index-requires : tie.Need-index-requires
+index-requires c κs = search needs
+
+is-low-requires : tie.Need-is-low-requires
+is-low-requires c κs =
+    let past = c .before .before .before in
+    rw (c .index .ensures) (fits-counters _ _ _ _ (sym (past .before .fits2 .ensures) ∙ not-false _ (past .if2 .left)))
+
+returns-3 : tie.Need-returns-3
+returns-3 c =
+    let past = c .before .before .before .before in
+    c .is-low .ensures ∙ rw (c .before .index .ensures) (right-by-bits _ (sym (past .before .fits2 .ensures) ∙ not-false _ (past .if2 .left)))
 
 pub is-right-spec : {M : Type 1} → statement M
 is-right-spec =
@@ -33,4 +52,9 @@ is-right-spec =
     shared-slice-read-fits-2
     shared-slice-read-fits-3
     fits-requires
-    returns-2)
+    returns-2
+    shared-slice-read-is-low
+    shared-slice-read-index
+    index-requires
+    is-low-requires
+    returns-3)

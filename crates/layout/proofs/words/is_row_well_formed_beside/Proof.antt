@@ -1,9 +1,10 @@
--- The first entry that fails decides at once; behind the loop what is joined decides, and past that the own entry (`Checked`).
+-- The first entry that fails decides at once; behind the loop the rest does (`Checked`).
 use Prim.Native.Nat.{_-_}
-use mathlib.Core.Path.{sym}
+use mathlib.Core.Path.{_≡_, sym}
+use native.Mathlib.Omega.{arith}
 use borrow.Author.Needs.{needs}
 use borrow.Author.Tests.{not-true, not-false}
-use Rattle.layout.specs.RowCheck.{Checked, check-begins, check-turn, check-fails, check-too-large, check-decides}
+use Rattle.layout.specs.RowCheck.{Checked, check-begins, check-turn, check-fails}
 use Rattle.layout.proofs.words.is_row_well_formed_beside.Statement.{statement}
 use Rattle.layout.proofs.words.is_row_well_formed_beside.Tie as tie
 
@@ -14,7 +15,7 @@ abbrev μ-loop : tie.MeasureT-loop
 μ-loop words r q counts high₀ j₀ high j = r - j
 
 loop-holds : tie.Need-loop-holds Inv-loop μ-loop
-loop-holds c = check-begins (c .before .pre .1)
+loop-holds c = check-begins
 
 entry-at-requires : tie.Need-entry-at-requires Inv-loop μ-loop
 entry-at-requires c κs = search needs
@@ -42,19 +43,15 @@ loop-again c =
     rw (found .entry-at .ensures) (check-turn (turn .before .loop .inv) (turn .loop-test .taken)
     (rw (found .entry-at .ensures) at (c .before .before .is-entry-ordered .ensures .0 (not-false _ (c .before .if1 .left)))))
 
+is-rest-well-formed-requires : tie.Need-is-rest-well-formed-requires Inv-loop μ-loop
+is-rest-well-formed-requires c κs =
+    let at = c .before in
+    let start = at .before .before in
+    let all : at .loop .j ≡ start .args .r = omega (arith, at .loop .inv .inside, c .loop-test .left) in
+    (start .pre .0, start .pre .1, rw all at (at .loop .inv))
+
 returns-2 : tie.Need-returns-2 Inv-loop μ-loop
-returns-2 c =
-    let at = c .before .before in
-    sym (check-too-large (at .loop .inv) (at .before .before .pre .0 .first) (c .before .loop-test .left) (c .if2 .taken))
-
-is-own-entry-counted-requires : tie.Need-is-own-entry-counted-requires Inv-loop μ-loop
-is-own-entry-counted-requires c κs = search needs
-
-returns-3 : tie.Need-returns-3 Inv-loop μ-loop
-returns-3 c =
-    let ended = c .before .before in
-    let at = ended .before in
-    rw (c .is-own-entry-counted .ensures) (check-decides (at .loop .inv) (at .before .before .pre .0 .first) (ended .loop-test .left) (c .before .if2 .left))
+returns-2 c = search needs
 
 pub is-row-well-formed-beside-spec : {M : Type 1} → statement M
 is-row-well-formed-beside-spec =
@@ -69,6 +66,5 @@ is-row-well-formed-beside-spec =
     add-j
     loop-less
     loop-again
-    returns-2
-    is-own-entry-counted-requires
-    returns-3)
+    is-rest-well-formed-requires
+    returns-2)

@@ -34,6 +34,7 @@ right c =
       fits =
           rw (h .cards-are, h .counters-are, ← (c .pre .0 .replica-is))
           (part-length (args .sizes .cards) (args .sizes .«replica_words») (args .card) (now (args .words)) (c .pre .0 .long) (c .pre .2));
+      low = rw (h .counters-are, c .pre .0 .replica-is) (c .pre .1 .low (c .args .card) (c .pre .2));
     }
 
 mul-from : tie.Need-mul-from

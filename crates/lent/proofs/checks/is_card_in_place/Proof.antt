@@ -2,7 +2,7 @@
 use Prim.Native.Nat.{_+_, _*_, _≤_}
 use native.Mathlib.Nat.{add-sub-cancel-left}
 use native.Mathlib.Omega.{arith}
-use lib.ListN.{length}
+use lib.ListN.{length, length-take, length-drop}
 use denote.Ref.{now}
 use borrow.Author.Needs.{needs}
 use Rattle.chassis_model.specs.ListParts.{part}
@@ -33,7 +33,10 @@ part-is-in-place-end : tie.Need-part-is-in-place-end
 part-is-in-place-end c = omega (arith, room (c .before .before .before))
 
 is-in-place-requires : tie.Need-is-in-place-requires
-is-in-place-requires c κs = search needs
+is-in-place-requires c κs =
+    let start = c .before .before .before .before in
+    let fit = start .pre .0 in
+    (simp (length-take, length-drop) (omega (arith, room start, fit .replica-is)), start .pre .2, fit .few-counters)
 
 returns : tie.Need-returns
 unfolding part

@@ -50,7 +50,7 @@ fitting : (c : tie.After-replica-words) → let args = c .before .before .before
 fitting c = record { replica-is = c .replica-words .ensures; fit = fit (c .before) }
 
 are-in-place-requires : tie.Need-are-in-place-requires
-are-in-place-requires c κs = all-fit _ _ _ (fitting (c .before))
+are-in-place-requires c κs = (all-fit _ _ _ (fitting (c .before)), sized _ _ _ (fitting (c .before)) .some-counters)
 
 -- ---- 1
 

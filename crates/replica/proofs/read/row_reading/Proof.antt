@@ -14,10 +14,10 @@ use Rattle.protocol.specs.Tables.{sum, bits}
 use Rattle.protocol.specs.Chassis.{read-value, read-holders}
 use Rattle.protocol.specs.StoreLaws.{shown}
 use Rattle.replica_model.specs.Layout.{entry-of}
-use Rattle.replica_model.specs.Calls.{row-well-formed, reading}
+use Rattle.replica_model.specs.Calls.{reading}
 use Rattle.replica_model.specs.RowLaws.{row-facts}
 use Rattle.layout.specs.WordsLaws.{few-cards}
-use Rattle.layout.specs.RowCheck.{Ordered, Checked, check-begins, check-turn, check-fails, check-too-large, check-decides}
+use Rattle.layout.specs.RowCheck.{Ordered, Checked, check-begins, check-turn, check-fails}
 use Rattle.layout.specs.Totals.{held}
 use Rattle.replica.specs.Sums.{held-fits, sum-turn-wrapped, bits-turn, bits-below, ones-bits}
 use Rattle.replica.proofs.read.row_reading.Statement.{statement}
@@ -28,18 +28,18 @@ abbrev held-by : ℕ → List ℕ → ℕ → ℕ → Bool
 held-by r b q j = present (entry-of r b q j)
 
 abbrev Inv-loop : tie.InvT-loop
-Inv-loop words r q high₀ value₀ holders₀ j₀ high value holders j =
+Inv-loop words r q counts high₀ value₀ holders₀ j₀ high value holders j =
     Checked words r q j high × (value ≡ sum j (held (entry-of r words q)) % 2 ^ 64) × (holders ≡ bits j (held-by r words q))
 
 abbrev μ-loop : tie.MeasureT-loop
-μ-loop words r q high₀ value₀ holders₀ j₀ high value holders j = r - j
+μ-loop words r q counts high₀ value₀ holders₀ j₀ high value holders j = r - j
 
 counts-joined-requires : tie.Need-counts-joined-requires Inv-loop μ-loop
 counts-joined-requires c κs = search needs
 
 loop-holds : tie.Need-loop-holds Inv-loop μ-loop
 unfolding sum bits
-loop-holds c = (check-begins (c .counts-joined .ensures), search needs, search needs)
+loop-holds c = (check-begins, search needs, search needs)
 
 entry-at-requires : tie.Need-entry-at-requires Inv-loop μ-loop
 entry-at-requires c κs = search needs
@@ -103,49 +103,36 @@ loop-again c =
       rw (at .loop .inv .2, c .bit-of .ensures, c .before .is-present .ensures, e) (bits-turn (at .loop .j) (held-by (args .r) (now (args .words)) (args .q)) (omega (arith, turn .loop-test .taken))),
     )
 
+is-rest-well-formed-requires : tie.Need-is-rest-well-formed-requires Inv-loop μ-loop
+is-rest-well-formed-requires c κs =
+    let at = c .before in
+    let start = at .before .before .before in
+    let all : at .loop .j ≡ start .args .r = omega (arith, at .loop .inv .0 .inside, c .loop-test .left) in
+    (start .pre, at .before .counts-joined .ensures, rw all at (at .loop .inv .0))
+
 refused-requires-2 : tie.Need-refused-requires-2 Inv-loop μ-loop
 refused-requires-2 c κs = search needs
 
 returns-2 : tie.Need-returns-2 Inv-loop μ-loop
-returns-2 c =
-    let ended = c .before .before in
-    let at = ended .before in
-    rw (check-too-large (at .loop .inv .0) (at .before .before .before .pre .first) (ended .loop-test .left) (c .before .if2 .taken)) (c .refused2 .ensures)
-
-is-own-entry-counted-requires : tie.Need-is-own-entry-counted-requires Inv-loop μ-loop
-is-own-entry-counted-requires c κs = search needs
-
--- past the second test the own entry decides
-decided : (c : tie.After-is-own-entry-counted Inv-loop μ-loop) → let start = c .before .before .before .before .before .before in
-    row-well-formed (now (start .args .words)) (start .args .q) ≡ c .is-own-entry-counted .result
-decided c =
-    let ended = c .before .before in
-    let at = ended .before in
-    rw (c .is-own-entry-counted .ensures) (sym (check-decides (at .loop .inv .0) (at .before .before .before .pre .first) (ended .loop-test .left) (c .before .if2 .left)))
-
-refused-requires-3 : tie.Need-refused-requires-3 Inv-loop μ-loop
-refused-requires-3 c κs = search needs
-
-returns-3 : tie.Need-returns-3 Inv-loop μ-loop
-returns-3 c = rw (decided (c .before .before) ∙ not-true _ (c .before .if3 .taken)) (c .refused3 .ensures)
+returns-2 c = rw (sym (c .before .before .is-rest-well-formed .ensures) ∙ not-true _ (c .before .if2 .taken)) (c .refused2 .ensures)
 
 wide-requires : tie.Need-wide-requires Inv-loop μ-loop
 wide-requires c κs = search needs
 
-cast-t19 : tie.Need-cast-t19 Inv-loop μ-loop
-cast-t19 c =
-    let at = c .before .before .before .before .before in
+cast-t20 : tie.Need-cast-t20 Inv-loop μ-loop
+cast-t20 c =
+    let at = c .before .before .before .before in
     let args = at .before .before .before .args in
     omega (arith, ones-le (at .loop .j) (at .loop .holders) (rw (at .loop .inv .2) (bits-below (at .loop .j) (held-by (args .r) (now (args .words)) (args .q)))))
 
-returns-4 : tie.Need-returns-4 Inv-loop μ-loop
+returns-3 : tie.Need-returns-3 Inv-loop μ-loop
 unfolding reading read-value read-holders shown
-returns-4 c =
-    let counted = c .before .before in
-    let at = counted .before .before .before in
+returns-3 c =
+    let asked = c .before .before in
+    let at = asked .before .before in
     let start = at .before .before .before in
     let all : at .loop .j ≡ start .args .r = omega arith in
-    let formed = decided counted ∙ not-false _ (c .before .if3 .left) in
+    let formed = sym (asked .is-rest-well-formed .ensures) ∙ not-false _ (c .before .if2 .left) in
     rw (formed, c .wide .ensures, at .loop .inv .1, at .loop .inv .2, all, start .pre .first, held-fits _ _ (row-facts _ _ formed) (start .pre .right .sizes .few-cards), ones-bits)
 
 pub row-reading-spec : {M : Type 1} → statement M
@@ -169,11 +156,9 @@ row-reading-spec =
     add-j
     loop-less
     loop-again
+    is-rest-well-formed-requires
     refused-requires-2
     returns-2
-    is-own-entry-counted-requires
-    refused-requires-3
-    returns-3
     wide-requires
-    cast-t19
-    returns-4)
+    cast-t20
+    returns-3)

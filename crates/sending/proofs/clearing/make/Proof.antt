@@ -1,7 +1,9 @@
--- The header (`header-written`); then the loop (`Making`), and the outcome from all of it (`clear-sent`).
+-- The header (`header-written`), and the row's bit taken away; then the loop (`Making`), and the outcome from all of it (`clear-sent`).
 use borrow.Author.Needs.{needs}
 use Prim.Native.Nat.{ℕ, _+_, _-_, _≤_, _<_}
 use mathlib.Core.Path.{_≡_, sym, ap, _∙_}
+use mathlib.Core.Bool.{false}
+use mathlib.Core.List.{List}
 use native.Mathlib.Omega.{arith}
 use lib.ListN.{length, length-set}
 use lib.Seq.{sets, length-sets}
@@ -9,22 +11,28 @@ use denote.Ref.{now}
 use Rattle.protocol.specs.Limits.{MAX, most-cards}
 use Rattle.protocol.specs.Rows.{WellFormed}
 use Rattle.wire.specs.Message.{version-2, clear-kind, clear-length, header-bytes-of}
-use Rattle.replica_model.specs.Layout.{N-of}
-use Rattle.layout.specs.WordsLaws.{few-cards, head-inside, row-N}
+use Rattle.replica_model.specs.Layout.{cards, N-of, set-active}
+use Rattle.replica_model.specs.Senders.{Sending}
+use Rattle.layout.specs.WordsLaws.{few-cards, few-counters, head-inside, row-N}
 use Rattle.sending.specs.SendLaws.{row-inside, own-below, own-numbers, header-written, clear-made}
 use Rattle.sending.specs.ClearLaws.{Stays, Making, making-begins, sent-well-formed, making-stays, making-few, making-small, making-length, making-next, making-room, making-turn, clear-sent}
 use Rattle.sending.proofs.clearing.make.Statement.{statement}
 use Rattle.sending.proofs.clearing.make.Tie as tie
 
+-- over any words b that the clear may be made of and that the loop found without the row's bit
 abbrev Inv-loop : tie.InvT-loop
-Inv-loop words₀ r q out₀ own messages value₀ len₀ j₀ words out value len j = Making words₀ out₀ r q j words out value len
+Inv-loop words₀ r q out₀ own messages value₀ len₀ j₀ words out value len j =
+    (b : List ℕ) → r ≡ cards b → Sending b q 0 → words₀ ≡ set-active q false b → Making b out₀ r q j words out value len
 
 abbrev μ-loop : tie.MeasureT-loop
 μ-loop words₀ r q out₀ own messages value₀ len₀ j₀ words out value len j = r - j
 
--- the way back: from the loop to where N is kept, to the own card, to the start
+-- the way back: from the loop to the header's last number, to where N is kept, to the own card, to the start
+abbrev headed-of : tie.At-loop Inv-loop μ-loop → tie.After-write-u324 Inv-loop μ-loop
+headed-of c = c .before .before .before .before .before .before .before
+
 abbrev sized-of : tie.At-loop Inv-loop μ-loop → tie.After-messages-at2 Inv-loop μ-loop
-sized-of c = c .before .before .before .before .before
+sized-of c = headed-of c .before .before
 
 abbrev mine-of : tie.After-messages-at2 Inv-loop μ-loop → tie.After-own-card Inv-loop μ-loop
 mine-of c = c .before .before .before .before .before .before .before .before .before .before .before .before .before .before .before .before .before .before .before .before .before .before
@@ -66,16 +74,20 @@ card-more c =
     let start = start-of c in
     omega (arith, ap (N-of (start .args .r) (now (start .args .words))) (c .own-card .ensures), own-numbers _ _ _ _ (start .pre .0) (start .pre .1))
 
--- of the loop: what stays, how many entries there are, and that the output is as long as it was
+-- of the loop: how far it is, what stays, how many entries there are, and that the output is as long as it was
 module _ (c : tie.At-loop Inv-loop μ-loop) where
+  making : let start = start-of (mine-of (sized-of c)) in
+      Making (now (start .args .words)) (headed-of c .write-u324 .last .0) (start .args .r) (start .args .q) (c .loop .j) (c .loop .words) (c .loop .out) (c .loop .value) (c .loop .len)
+  making = let start = start-of (mine-of (sized-of c)) in c .loop .inv _ (start .pre .0) (start .pre .1) (c .before .before .before .set-quiet .ensures)
+
   stays : let start = start-of (mine-of (sized-of c)) in Stays (start .args .r) (start .args .q) (c .loop .j) (now (start .args .words)) (c .loop .words)
-  stays = making-stays _ _ _ (start-of (mine-of (sized-of c)) .pre .0) (start-of (mine-of (sized-of c)) .pre .1) _ _ _ _ _ _ (c .loop .inv)
+  stays = making-stays _ _ _ (start-of (mine-of (sized-of c)) .pre .0) (start-of (mine-of (sized-of c)) .pre .1) _ _ _ _ _ _ making
 
   len-few : c .loop .len ≤ most-cards
-  len-few = omega (arith, making-few _ _ _ _ _ _ _ _ _ (c .loop .inv), c .loop .inv .within, few (start-of (mine-of (sized-of c))))
+  len-few = omega (arith, making-few _ _ _ _ _ _ _ _ _ making, making .within, few (start-of (mine-of (sized-of c))))
 
   out-long : length (c .loop .out) ≡ length (now (start-of (mine-of (sized-of c)) .args .out))
-  out-long = making-length _ _ _ _ _ _ _ _ _ (c .loop .inv) ∙ header-long (c .before .before .before)
+  out-long = making-length _ _ _ _ _ _ _ _ _ making ∙ header-long (headed-of c)
 
 -- the entry that a turn reads is as it was
 entry-small : (c : tie.After-entry-at Inv-loop μ-loop) → WellFormed MAX (c .entry-at .result)
@@ -84,7 +96,7 @@ entry-small c =
     let sized = sized-of at in
     let pre = start-of (mine-of sized) .pre in
     let more = c .before .before .loop-test .taken in
-    rw (c .entry-at .ensures ∙ making-next _ _ _ (pre .0) (pre .1) _ _ _ _ _ _ (at .loop .inv) more)
+    rw (c .entry-at .ensures ∙ making-next _ _ _ (pre .0) (pre .1) _ _ _ _ _ _ (making at) more)
     (sent-well-formed _ _ _ (pre .0) (pre .1) _ more)
 
 own-card-requires : tie.Need-own-card-requires Inv-loop μ-loop
@@ -134,8 +146,13 @@ cast-write-u32-2 c = let h = start-of (mine-of (c .before)) .pre .1 in omega (ar
 write-u32-requires-4 : tie.Need-write-u32-requires-4 Inv-loop μ-loop
 write-u32-requires-4 c κs = omega (arith, room (start-of (mine-of (c .before))))
 
+set-quiet-requires : tie.Need-set-quiet-requires Inv-loop μ-loop
+set-quiet-requires c κs =
+    let start = start-of (mine-of (c .before .before .before .before .before)) in
+    (head-inside _ (start .pre .1 .right), few-counters _ _ _ (row-inside _ _ _ _ (start .pre .0) (start .pre .1)))
+
 loop-holds : tie.Need-loop-holds Inv-loop μ-loop
-loop-holds c = making-begins _ _ _ _
+loop-holds c = λ b first h quiet. making-begins _ _ _ _ _ quiet
 
 entry-at-requires : tie.Need-entry-at-requires Inv-loop μ-loop
 entry-at-requires c κs = (stays (c .before .before) .inside, c .before .loop-test .taken)
@@ -148,7 +165,7 @@ add-value c =
     let at = c .before .before .before .before in
     let sized = sized-of at in
     let small = entry-small (c .before) in
-    omega (arith, making-small _ _ _ (start-of (mine-of sized) .pre .0) (start-of (mine-of sized) .pre .1) _ _ _ _ _ _ (at .loop .inv), few (start-of (mine-of sized)), c .before .before .before .loop-test .taken)
+    omega (arith, making-small _ _ _ (start-of (mine-of sized) .pre .0) (start-of (mine-of sized) .pre .1) _ _ _ _ _ _ (making at), few (start-of (mine-of sized)), c .before .before .before .loop-test .taken)
 
 make-entry-requires : tie.Need-make-entry-requires Inv-loop μ-loop
 make-entry-requires c κs =
@@ -161,8 +178,8 @@ make-entry-requires c κs =
       stays at .inside,
       more,
       rw (read .entry-at .ensures) at (entry-small read .n≤p),
-      making-room _ _ _ (start .pre .0) (start .pre .1) _ _ _ _ _ _ (at .loop .inv) more (rw (header-long (at .before .before .before)) (start .pre .2)),
-      making-few _ _ _ _ _ _ _ _ _ (at .loop .inv),
+      making-room _ _ _ (start .pre .0) (start .pre .1) _ _ _ _ _ _ (making at) more (rw (header-long (headed-of at)) (start .pre .2)),
+      making-few _ _ _ _ _ _ _ _ _ (making at),
     )
 
 add-j : tie.Need-add-j Inv-loop μ-loop
@@ -179,10 +196,9 @@ loop-again c =
     let read = made .before .before .before .before in
     let turn = read .before .before in
     let at = turn .before in
-    let sized = sized-of at in
     let done = made .make-entry .ensures in
-    rw (read .entry-at .ensures)
-    (making-turn _ _ _ (start-of (mine-of sized) .pre .0) (start-of (mine-of sized) .pre .1) _ _ _ _ _ _ (at .loop .inv) (turn .loop-test .taken) _ _ _ (done .0) (done .1) (done .2))
+    λ b first h quiet. rw (read .entry-at .ensures)
+    (making-turn _ _ _ first h _ _ _ _ _ _ (at .loop .inv b first h quiet) (turn .loop-test .taken) _ _ _ (done .0) (done .1) (done .2))
 
 add-sequence : tie.Need-add-sequence Inv-loop μ-loop
 add-sequence c = let kept = sized-of (c .before) in omega (arith, kept .messages-at2 .ensures, card-more (mine-of kept))
@@ -220,10 +236,9 @@ returns c =
     let kept = sized-of at in
     let mine = mine-of kept in
     let start = start-of mine in
-    let all : at .loop .j ≡ start .args .r = omega (arith, at .loop .inv .within, ended .loop-test .left) in
+    let all : at .loop .j ≡ start .args .r = omega (arith, making at .within, ended .loop-test .left) in
     rw (c .clear-length .ensures)
-    (clear-sent _ _ _ (start .pre .0) (start .pre .1) _ _ _ _ _ _ _ _ _ (start .pre .2) (mine .own-card .ensures)
-    (rw (header (at .before .before .before), all) at (at .loop .inv))
+    (clear-sent _ _ _ (start .pre .0) (start .pre .1) _ _ _ _ _ _ _ _ _ _ _ (start .pre .2) (mine .own-card .ensures) (header (headed-of at)) all (making at)
     (ap (λ (x : ℕ). x + 1) (kept .messages-at2 .ensures ∙ sym (stays at .N-stays _ (own-in mine)))) (written .write-u325 .ensures) (counted .set-messages .ensures))
 
 pub make-spec : {M : Type 1} → statement M
@@ -244,6 +259,7 @@ make-spec =
     messages-at-requires-2
     cast-write-u32-2
     write-u32-requires-4
+    set-quiet-requires
     loop-holds
     entry-at-requires
     sub-value

@@ -1,7 +1,8 @@
--- An absent entry adds nothing. A present one is three numbers stored side by side (`entry-written`), and what stands there, cleared, is put back.
+-- An absent entry adds nothing (`made-absent`). A present one is three numbers stored side by side (`entry-written`); then it is put back, cleared, and the row's bit with it
+-- (`made-ahead`), or goes (`made-gone`).
 use borrow.Author.Needs.{needs}
 use Prim.Native.Nat.{_+_, _≤_, _<_}
-use mathlib.Core.Path.{_≡_, refl, ap, _∙_}
+use mathlib.Core.Path.{_≡_}
 use mathlib.Core.List.{[], _∷_}
 use native.Mathlib.Omega.{arith}
 use lib.ListN.{length}
@@ -9,11 +10,10 @@ use lib.Seq.{sets, length-sets}
 use denote.Ref.{now}
 use borrow.Author.Tests.{lt-ltb, le-ltb}
 use Rattle.protocol.specs.declared.Entry.{Entry}
-use Rattle.protocol.specs.StoreLaws.{cleared-words}
 use Rattle.wire.specs.Message.{clear-length, entries-bytes}
-use Rattle.replica_model.specs.Layout.{entry-of, set-entry}
+use Rattle.replica_model.specs.Layout.{entry-of}
 use Rattle.layout.specs.WordsLaws.{few-cards, row-C}
-use Rattle.sending.specs.ClearLaws.{entry-written, cleared-ahead, cleared-gone}
+use Rattle.sending.specs.ClearLaws.{entry-written, made-absent, made-ahead, made-gone}
 use Rattle.sending.proofs.clearing.make_entry.Statement.{statement}
 use Rattle.sending.proofs.clearing.make_entry.Tie as tie
 
@@ -59,11 +59,12 @@ same-length : tie.Need-same-length
 same-length c = search needs
 
 returns : tie.Need-returns
-unfolding cleared-words entries-bytes
+unfolding entries-bytes
 returns c =
     let start = c .before .before .before .before .before .before in
     let none : entry start .p ≡ 0 = rw (c .before .before .entry-at .ensures) at (c .if1 .taken) in
-    rw (le-ltb 0 (entry start .p) (omega arith)) (omega arith, refl, refl)
+    let gone = le-ltb 0 (entry start .p) (omega arith) in
+    (rw gone (omega arith), made-absent _ _ _ _ none, rw gone)
 
 clear-length-requires : tie.Need-clear-length-requires
 clear-length-requires c κs = search needs
@@ -105,8 +106,12 @@ increments-at-requires c κs = let start = start-of (place-of (written-of (c .be
 abbrev found-of : tie.After-struct-known2 → tie.After-entry-at4
 found-of c = c .before .before .before
 
-put-entry-requires : tie.Need-put-entry-requires
-put-entry-requires c κs = let start = start-of (place-of (written-of (found-of (c .before .before))) .before) in (start .pre .0, start .pre .1)
+put-present-requires : tie.Need-put-present-requires
+put-present-requires c κs =
+    let found = found-of (c .before .before) in
+    let else1 = place-of (written-of found) .before in
+    let start = start-of else1 in
+    (start .pre .0, start .pre .1, rw (found .entry-at4 .ensures) (some else1))
 
 add-result : tie.Need-add-result
 add-result c =
@@ -120,7 +125,6 @@ same-length-3 : tie.Need-same-length-3
 same-length-3 c = rw (written (written-of (found-of (c .before .before .before .before .before)))) (simp length-sets)
 
 returns-2 : tie.Need-returns-2
-unfolding cleared-words
 returns-2 c =
     let stored = c .before .before in
     let then2 = stored .before .before in
@@ -129,15 +133,14 @@ returns-2 c =
     let found = found-of known in
     let else1 = place-of (written-of found) .before in
     let start = start-of else1 in
-    rw (lt-ltb 0 _ (some else1)) (
-      refl,
-      stored .put-entry .ensures
-          ∙ ap (λ (x : Entry). set-entry (start .args .r) (start .args .q) (start .args .j) x (now (start .args .words))) (cleared-ahead _ _ (start .pre .2) (some else1) _ _ (found .entry-at4 .ensures) (received .increments-at .ensures) (then2 .if2 .taken)),
-      written (written-of found),
+    let one = lt-ltb 0 _ (some else1) in (
+      rw one,
+      made-ahead _ _ _ _ (start .pre .0) (start .pre .1) (start .pre .2) (some else1) _ _ (found .entry-at4 .ensures) (received .increments-at .ensures) (then2 .if2 .taken) _ (stored .put-present .ensures),
+      rw one (written (written-of found)),
     )
 
-put-entry-requires-2 : tie.Need-put-entry-requires-2
-put-entry-requires-2 c κs = let start = start-of (place-of (written-of (found-of (c .before .before))) .before) in (start .pre .0, start .pre .1)
+put-absent-requires : tie.Need-put-absent-requires
+put-absent-requires c κs = let start = start-of (place-of (written-of (found-of (c .before .before))) .before) in (start .pre .0, start .pre .1)
 
 add-result-2 : tie.Need-add-result-2
 add-result-2 c =
@@ -151,7 +154,6 @@ same-length-5 : tie.Need-same-length-5
 same-length-5 c = rw (written (written-of (found-of (c .before .before .before .before .before)))) (simp length-sets)
 
 returns-3 : tie.Need-returns-3
-unfolding cleared-words
 returns-3 c =
     let stored = c .before .before in
     let else2 = stored .before .before in
@@ -160,11 +162,10 @@ returns-3 c =
     let found = found-of known in
     let else1 = place-of (written-of found) .before in
     let start = start-of else1 in
-    rw (lt-ltb 0 _ (some else1)) (
-      refl,
-      stored .put-entry2 .ensures
-          ∙ ap (λ (x : Entry). set-entry (start .args .r) (start .args .q) (start .args .j) x (now (start .args .words))) (cleared-gone _ _ (start .pre .2) (some else1) _ _ (found .entry-at4 .ensures) (received .increments-at .ensures) (else2 .if2 .left)),
-      written (written-of found),
+    let one = lt-ltb 0 _ (some else1) in (
+      rw one,
+      made-gone _ _ _ _ (start .pre .0) (start .pre .1) (start .pre .2) (some else1) _ _ (found .entry-at4 .ensures) (received .increments-at .ensures) (else2 .if2 .left) _ (stored .put-absent .ensures),
+      rw one (written (written-of found)),
     )
 
 pub make-entry-spec : {M : Type 1} → statement M
@@ -185,12 +186,12 @@ make-entry-spec =
     write-u64-requires-2
     entry-at-requires-4
     increments-at-requires
-    put-entry-requires
+    put-present-requires
     add-result
     same-length-2
     same-length-3
     returns-2
-    put-entry-requires-2
+    put-absent-requires
     add-result-2
     same-length-4
     same-length-5

@@ -82,7 +82,7 @@ is-left-requires : tie.Need-is-left-requires
 is-left-requires c κs =
     let mine = c .before .before in
     let formed = mine .before in
-    (rw (c .increments-at .ensures, mine .own-card .ensures) (row-facts _ _ (is-formed formed) .C≤MAX _ (is-row (formed .before .before .before) .right .own)), omega arith)
+    (rw (c .increments-at .ensures, mine .own-card .ensures) (row-facts _ _ (is-formed formed) .tables .C≤MAX _ (is-row (formed .before .before .before) .right .own)), omega arith)
 
 returns-4 : tie.Need-returns-4
 returns-4 c =

@@ -38,10 +38,10 @@ back-7 c = c .before .before .before .before .before .before .before .before
 abbrev back-8 : tie.After-write-u326 → tie.After-write-u325
 back-8 c = c .before .before .before .before .before .before
 
-abbrev back-9 : tie.After-put-entry → tie.After-write-u326
+abbrev back-9 : tie.After-put-present → tie.After-write-u326
 back-9 c = c .before .before .before .before .before
 
-abbrev back-10 : tie.After-set-increments → tie.After-put-entry
+abbrev back-10 : tie.After-set-increments → tie.After-put-present
 back-10 c = c .before .before .before .before
 
 abbrev back-11 : tie.After-set-messages → tie.After-set-increments
@@ -71,7 +71,7 @@ mine-7 c = mine-6 (back-7 c)
 abbrev mine-8 : tie.After-write-u326 → tie.After-own-card
 mine-8 c = mine-7 (back-8 c)
 
-abbrev seen-9 : tie.After-put-entry → tie.After-messages-at2
+abbrev seen-9 : tie.After-put-present → tie.After-messages-at2
 seen-9 c = back-6 (back-7 (back-8 (back-9 c))) .before .before
 
 abbrev start-of : tie.After-own-card → tie.Start
@@ -92,7 +92,7 @@ fits c = let pre = start-of c .pre in own-fits _ _ _ _ _ (pre .0) (c .own-card .
 amount-fits : (c : tie.After-own-card) → let w = start-of c .args .amount in (1 ≤ w) × (w ≤ most-amount)
 amount-fits c = amount-range _ (start-of c .pre .2)
 
-sequence-fits : (c : tie.After-put-entry) → seen-9 c .messages-at2 .result < MAX
+sequence-fits : (c : tie.After-put-present) → seen-9 c .messages-at2 .result < MAX
 sequence-fits c = let seen = seen-9 c in omega (arith, seen .messages-at2 .ensures, fits (mine-4 (seen .before .before .before .before)))
 
 -- ---- the output stays as long as it was
@@ -198,8 +198,8 @@ counted-entry-requires c κs =
     let mine = mine-8 stored in
     rw (back-8 stored .before .before .before .before .entry-at2 .ensures) (omega (arith, stored .before .before .increments-at2 .ensures, fits mine, amount-fits mine))
 
-put-entry-requires : tie.Need-put-entry-requires
-put-entry-requires c κs = let mine = mine-8 (c .before .before .before .before) in (is-row mine, own-in mine)
+put-present-requires : tie.Need-put-present-requires
+put-present-requires c κs = let mine = mine-8 (c .before .before .before .before) in (is-row mine, own-in mine, c .counted-entry .ensures .1)
 
 add-set-increments : tie.Need-add-set-increments
 add-set-increments c = let stored = back-9 (c .before .before .before) in omega (arith, stored .before .before .increments-at2 .ensures, fits (mine-8 stored))
@@ -208,7 +208,7 @@ set-increments-requires : tie.Need-set-increments-requires
 set-increments-requires c κs =
     let put = c .before .before .before in
     let mine = mine-8 (back-9 put) in
-    rw (put .put-entry .kept .0) (row-C _ _ _ (is-row mine) _ (own-in mine))
+    rw (put .put-present .kept .0) (row-C _ _ _ (is-row mine) _ (own-in mine))
 
 add-set-messages : tie.Need-add-set-messages
 add-set-messages c = omega (arith, sequence-fits (back-10 (c .before .before .before)))
@@ -218,13 +218,13 @@ set-messages-requires c κs =
     let set = c .before .before .before in
     let put = back-10 set in
     let mine = mine-8 (back-9 put) in
-    rw (set .set-increments .kept .0, put .put-entry .kept .0) (row-N _ _ _ (is-row mine) _ (own-in mine))
+    rw (set .set-increments .kept .0, put .put-present .kept .0) (row-N _ _ _ (is-row mine) _ (own-in mine))
 
 add-result : tie.Need-add-result
 add-result c = omega (arith, sequence-fits (back-10 (back-11 (c .before .before))))
 
 same-length : tie.Need-same-length
-same-length c = let last = c .before .before in last .set-messages .kept .0 ∙ back-11 last .set-increments .kept .0 ∙ back-10 (back-11 last) .put-entry .kept .0
+same-length c = let last = c .before .before in last .set-messages .kept .0 ∙ back-11 last .set-increments .kept .0 ∙ back-10 (back-11 last) .put-present .kept .0
 
 same-length-2 : tie.Need-same-length-2
 same-length-2 c = long-8 (c .before .before .before .before .before .before .before .before .before .before .before .before .before .before .before)
@@ -253,7 +253,7 @@ returns c =
     let bytes = amount-stored version-2 _ _ _ _ _ _ out _ _ _ (start .pre .3) header (sixth .write-u642 .ensures) (seventh .write-u325 .ensures) refl _ (eighth .write-u326 .ensures) in
     count-outcome b out _ _ _ _ (start .pre .0) own _ _ _ seen
     (count-applied b out _ _ _ _ (start .pre .0) own _ _ _ _ _ _ _ (start .pre .1) seen (eighth .before .before .increments-at2 .ensures) found
-    (put .before .counted-entry .ensures) (put .put-entry .ensures) (raised .set-increments .ensures) (counted .set-messages .ensures))
+    (put .before .counted-entry .ensures .0) (put .put-present .ensures) (raised .set-increments .ensures) (counted .set-messages .ensures))
     (count-written b out _ _ _ _ (start .pre .0) own _ _ _ _ _ _ _ _
     (third .before .own-card2 .ensures) (fourth .before .messages-at .ensures) (sixth .before .before .before .increments-at .ensures) (sixth .before .before .before .before .before .entry-at .ensures) found
     (sixth .before .before .next-p .ensures) (seventh .before .flag .ensures) bytes)
@@ -285,7 +285,7 @@ make-spec =
     cast-write-u32-3
     write-u32-requires-6
     counted-entry-requires
-    put-entry-requires
+    put-present-requires
     add-set-increments
     set-increments-requires
     add-set-messages

@@ -100,7 +100,7 @@ is-left-requires c κs =
     let mine = c .before .before in
     let else4 = mine .before in
     let found = else4 .before .before .before in (
-      rw (c .increments-at .ensures, mine .own-card .ensures) (row-facts _ _ (is-formed else4) .C≤MAX _ (is-row found .right .own)),
+      rw (c .increments-at .ensures, mine .own-card .ensures) (row-facts _ _ (is-formed else4) .tables .C≤MAX _ (is-row found .right .own)),
       amount-range _ (is-asked (found .before)) .1,
     )
 

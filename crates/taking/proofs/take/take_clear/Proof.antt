@@ -1,5 +1,5 @@
--- The number of entries, the length, the ranges of the header, then entry by entry: bytes that pass read, and the message holds what was read so far. Then the number of the
--- shared checks, then whether each entry is plausible; past both, the entries are cleared one by one.
+-- The number of entries, the length, the ranges of the header, then entry by entry: bytes that pass read, and the message holds what was read so far. Then the row, the number of the
+-- other shared checks, then whether each entry is plausible; past both, the entries are cleared one by one.
 use Prim.Native.Nat.{ℕ, _-_, _≤_, _<_}
 use mathlib.Core.Path.{_≡_, refl, sym, ap, _∙_}
 use mathlib.Core.Bool.{true, _&&_}
@@ -27,7 +27,7 @@ use Rattle.layout.specs.WordsLaws.{head-inside, C-inside, row-N}
 use Rattle.layout.specs.Effects.{Clearing, clearing-begins, next-card, clearing-turn, clearing-ends}
 use Rattle.taking.specs.ReadParts.{entries-from, clear-from, count-room, entries-place, clear-many, clear-inexact, clear-tested, clear-received}
 use Rattle.taking.specs.AbsentEntries.{RowWhole, row-whole, row-whole-cleared}
-use Rattle.taking.specs.Taking.{entry-test, low-none, low-turn, entry-passed, entry-failed, entries-done, entries-held, entries-plausible, shared-checks, judged, Passed, is-passed, receives, taking-refused, taking-declined, was-taken, unread, read-judged, clear-after}
+use Rattle.taking.specs.Taking.{entry-test, low-none, low-turn, entry-passed, entry-failed, entries-done, entries-held, entries-plausible, shared-checks, row-refused, row-passed, judged, Passed, is-passed, receives, taking-refused, taking-declined, was-taken, unread, read-judged, clear-after}
 use Rattle.taking.proofs.take.take_clear.Statement.{statement}
 use Rattle.taking.proofs.take.take_clear.Tie as tie
 
@@ -77,7 +77,7 @@ abbrev AllRead : Type 0
 AllRead = tie.After-loop Inv-loop μ-loop Inv-loop2 μ-loop2 Inv-loop3 μ-loop3
 
 abbrev Shared : Type 0
-Shared = tie.Else5 Inv-loop μ-loop Inv-loop2 μ-loop2 Inv-loop3 μ-loop3
+Shared = tie.Else6 Inv-loop μ-loop Inv-loop2 μ-loop2 Inv-loop3 μ-loop3
 
 abbrev Judging : Type 0
 Judging = tie.At-loop2 Inv-loop μ-loop Inv-loop2 μ-loop2 Inv-loop3 μ-loop3
@@ -91,8 +91,11 @@ count-of c = c .before .before .before .before .before .before
 abbrev ranged-of : AllRead → Ranged
 ranged-of c = c .before .before
 
+abbrev sized-of : Shared → tie.After-cards-of Inv-loop μ-loop Inv-loop2 μ-loop2 Inv-loop3 μ-loop3
+sized-of c = c .before .before .before .before .before .before
+
 abbrev read-of : Shared → AllRead
-read-of c = c .before .before .before .before .before
+read-of c = sized-of c .before .before
 
 abbrev shared-of : Judging → Shared
 shared-of c = c .before .before .before .before .before .before .before .before
@@ -144,18 +147,22 @@ whole c =
     let pre = start-of count .pre in
     read-judged _ _ (pre .0) (got count) (clear-received _ _ (pre .2) (pre .3) (pre .4) _ _ (count .next-int .ensures)) (sym (fit (ranged-of c)) ∙ all-fit c)
 
--- the number of the shared checks
-number-is : (c : tie.After-refusal-of Inv-loop μ-loop Inv-loop2 μ-loop2 Inv-loop3 μ-loop3) → let count = count-of (ranged-of (c .before .before .before .before)) in
-    c .refusal-of .result ≡ first-failing (shared-checks (words-of count) (got count))
+-- the number of the shared checks: those of the row pass, and the others give it
+number-is : (c : tie.After-sender-refusal Inv-loop μ-loop Inv-loop2 μ-loop2 Inv-loop3 μ-loop3) → let count = count-of (ranged-of (c .before .before .before .before .before .before .before)) in
+    c .sender-refusal .result ≡ first-failing (shared-checks (words-of count) (got count))
 number-is c =
-    let sized = c .before .before in
+    let else5 = c .before .before in
+    let asked = else5 .before in
+    let sized = asked .before .before in
     let read = sized .before .before in
-    c .refusal-of .ensures (got (count-of (ranged-of read)))
-    (record { counter = refl; sender = refl; sequence = refl; entries = rw (sized .cards-of .ensures) (sym (rw (all-read read) at (read .before .loop .inv .5))) })
+    let count = count-of (ranged-of read) in
+    c .sender-refusal .ensures (got count)
+    (record { sender = refl; sequence = refl; entries = rw (sized .cards-of .ensures) (sym (rw (all-read read) at (read .before .loop .inv .5))) })
+    ∙ sym (row-passed (words-of count) (got count) _ refl (sym (asked .is-row-fit .ensures) ∙ not-false _ (else5 .if5 .left)))
 
 -- none of them fails
 none : (c : Shared) → let count = count-of (ranged-of (read-of c)) in first-failing (shared-checks (words-of count) (got count)) ≡ 0
-none c = sym (number-is (c .before)) ∙ c .if5 .left
+none c = sym (number-is (c .before)) ∙ c .if6 .left
 
 passed : (c : Shared) → let count = count-of (ranged-of (read-of c)) in Passed (words-of count) (got count)
 passed c = is-passed _ _ (none c)
@@ -284,8 +291,11 @@ loop-again c =
 cards-of-requires : tie.Need-cards-of-requires Inv-loop μ-loop Inv-loop2 μ-loop2 Inv-loop3 μ-loop3
 cards-of-requires c κs = head-inside _ (start-of (count-of (ranged-of (c .before))) .pre .0)
 
-refusal-of-requires : tie.Need-refusal-of-requires Inv-loop μ-loop Inv-loop2 μ-loop2 Inv-loop3 μ-loop3
-refusal-of-requires c κs = start-of (count-of (ranged-of (c .before .before .before))) .pre .0
+is-row-fit-requires : tie.Need-is-row-fit-requires Inv-loop μ-loop Inv-loop2 μ-loop2 Inv-loop3 μ-loop3
+is-row-fit-requires c κs = start-of (count-of (ranged-of (c .before .before .before))) .pre .0
+
+row-refusal-requires : tie.Need-row-refusal-requires Inv-loop μ-loop Inv-loop2 μ-loop2 Inv-loop3 μ-loop3
+row-refusal-requires c κs = start-of (count-of (ranged-of (c .before .before .before .before .before .before))) .pre .0
 
 refused-requires-5 : tie.Need-refused-requires-5 Inv-loop μ-loop Inv-loop2 μ-loop2 Inv-loop3 μ-loop3
 refused-requires-5 c κs = search needs
@@ -295,9 +305,28 @@ same-length c = search needs
 
 returns-5 : tie.Need-returns-5 Inv-loop μ-loop Inv-loop2 μ-loop2 Inv-loop3 μ-loop3
 returns-5 c =
+    let number = c .before in
+    let then5 = number .before .before in
+    let asked = then5 .before in
+    let read = asked .before .before .before .before in
+    let count = count-of (ranged-of read) in
+    let failed = row-refused (words-of count) (got count) _ refl (sym (asked .is-row-fit .ensures) ∙ not-true _ (then5 .if5 .taken)) in
+    rw (c .refused5 .ensures, number .row-refusal .ensures, ← failed .0) (taking-refused _ (got count) (λ e. failed .1 (sym (failed .0) ∙ e))) ∙ whole read
+
+sender-refusal-requires : tie.Need-sender-refusal-requires Inv-loop μ-loop Inv-loop2 μ-loop2 Inv-loop3 μ-loop3
+sender-refusal-requires c κs = start-of (count-of (ranged-of (c .before .before .before .before .before .before))) .pre .0
+
+refused-requires-6 : tie.Need-refused-requires-6 Inv-loop μ-loop Inv-loop2 μ-loop2 Inv-loop3 μ-loop3
+refused-requires-6 c κs = search needs
+
+same-length-2 : tie.Need-same-length-2 Inv-loop μ-loop Inv-loop2 μ-loop2 Inv-loop3 μ-loop3
+same-length-2 c = search needs
+
+returns-6 : tie.Need-returns-6 Inv-loop μ-loop Inv-loop2 μ-loop2 Inv-loop3 μ-loop3
+returns-6 c =
     let number = c .before .before in
-    let read = number .before .before .before .before in
-    rw (c .refused5 .ensures, number-is number) (taking-refused _ (got (count-of (ranged-of read))) (λ e. c .before .if5 .taken (number-is number ∙ e))) ∙ whole read
+    let read = number .before .before .before .before .before .before .before in
+    rw (c .refused6 .ensures, number-is number) (taking-refused _ (got (count-of (ranged-of read))) (λ e. c .before .if6 .taken (number-is number ∙ e))) ∙ whole read
 
 own-card-requires : tie.Need-own-card-requires Inv-loop μ-loop Inv-loop2 μ-loop2 Inv-loop3 μ-loop3
 own-card-requires c κs = head-inside _ (start-of (count-of (ranged-of (read-of (c .before)))) .pre .0)
@@ -318,7 +347,7 @@ increments-at-requires-2 c κs =
 
 loop2-holds : tie.Need-loop2-holds Inv-loop μ-loop Inv-loop2 μ-loop2 Inv-loop3 μ-loop3
 loop2-holds c =
-    let few = c .before .before .before .before .before .before .before .before .before .before .before .before .before .loop .inv .1 in
+    let few = read-of (c .before .before .before .before .before .before .before) .before .loop .inv .1 in
     (omega arith, few, refl)
 
 mul-e-2 : tie.Need-mul-e-2 Inv-loop μ-loop Inv-loop2 μ-loop2 Inv-loop3 μ-loop3
@@ -332,23 +361,23 @@ is-entry-plausible-requires c κs =
     let at = c .before .before in
     λ e. passed (shared-of at) .apart (sym (at .before .before .before .before .before .before .own-card .ensures) ∙ e)
 
-refused-requires-6 : tie.Need-refused-requires-6 Inv-loop μ-loop Inv-loop2 μ-loop2 Inv-loop3 μ-loop3
-refused-requires-6 c κs = search needs
+refused-requires-7 : tie.Need-refused-requires-7 Inv-loop μ-loop Inv-loop2 μ-loop2 Inv-loop3 μ-loop3
+refused-requires-7 c κs = search needs
 
-same-length-2 : tie.Need-same-length-2 Inv-loop μ-loop Inv-loop2 μ-loop2 Inv-loop3 μ-loop3
-same-length-2 c = search needs
+same-length-3 : tie.Need-same-length-3 Inv-loop μ-loop Inv-loop2 μ-loop2 Inv-loop3 μ-loop3
+same-length-3 c = search needs
 
-returns-6 : tie.Need-returns-6 Inv-loop μ-loop Inv-loop2 μ-loop2 Inv-loop3 μ-loop3
-returns-6 c =
-    let then6 = c .before in
-    let judge = then6 .before in
+returns-7 : tie.Need-returns-7 Inv-loop μ-loop Inv-loop2 μ-loop2 Inv-loop3 μ-loop3
+returns-7 c =
+    let then7 = c .before in
+    let judge = then7 .before in
     let turn = judge .before .before in
     let at = turn .before in
     let shared = shared-of at in
     let read = read-of shared in
     let fails = entry-failed _ (entries (count-of (ranged-of read))) (at .loop2 .judged) (at .loop2 .inv .2) (rw (length-entries-at _ _ _) (turn .loop2-test .taken))
-    (rw (held read _ (turn .loop2-test .taken)) (sym (judge .is-entry-plausible .ensures) ∙ not-true _ (then6 .if6 .taken))) in
-    rw (c .refused6 .ensures) (taking-declined _ _ (none shared) (sym (judged-as at) ∙ fails)) ∙ whole read
+    (rw (held read _ (turn .loop2-test .taken)) (sym (judge .is-entry-plausible .ensures) ∙ not-true _ (then7 .if7 .taken))) in
+    rw (c .refused7 .ensures) (taking-declined _ _ (none shared) (sym (judged-as at) ∙ fails)) ∙ whole read
 
 add-judged : tie.Need-add-judged Inv-loop μ-loop Inv-loop2 μ-loop2 Inv-loop3 μ-loop3
 add-judged c = search needs
@@ -365,7 +394,7 @@ loop2-again c =
       omega (arith, turn .loop2-test .taken),
       at .loop2 .inv .1,
       entry-passed _ (entries (count-of (ranged-of read))) (at .loop2 .judged) (at .loop2 .inv .2) (rw (length-entries-at _ _ _) (turn .loop2-test .taken))
-          (rw (held read _ (turn .loop2-test .taken)) (sym (judge .is-entry-plausible .ensures) ∙ not-false _ (c .if6 .left))),
+          (rw (held read _ (turn .loop2-test .taken)) (sym (judge .is-entry-plausible .ensures) ∙ not-false _ (c .if7 .left))),
     )
 
 cast-q : tie.Need-cast-q Inv-loop μ-loop Inv-loop2 μ-loop2 Inv-loop3 μ-loop3
@@ -375,7 +404,7 @@ loop3-holds : tie.Need-loop3-holds Inv-loop μ-loop Inv-loop2 μ-loop2 Inv-loop3
 loop3-holds c =
     let at = c .before .before in
     let shared = shared-of at in
-    let sized = shared .before .before .before in
+    let sized = sized-of shared in
     let count = count-of (ranged-of (read-of shared)) in
     rw (sized .cards-of .ensures)
     (omega arith, at .loop2 .inv .1, clearing-begins _ _ _ _ _ _ (receives _ _ (start-of count .pre .0) (passed shared)) (passed shared .entries), row-whole (words-of count) (start-of count .args .header .counter) (passed shared .row))
@@ -414,29 +443,34 @@ loop3-again c =
     rw (cleared .clear-entry .ensures)
     (omega arith, at .loop3 .inv .1, rw here at (clearing-turn _ _ _ _ _ _ (at .loop3 .applied) _ (at .loop3 .inv .2) more), rw here at (row-whole-cleared _ _ _ (getD es (at .loop3 .applied) no-entry) (at .loop3 .inv .2 .receives .row) below some (at .loop3 .inv .3)))
 
+mark-requires : tie.Need-mark-requires Inv-loop μ-loop Inv-loop2 μ-loop2 Inv-loop3 μ-loop3
+mark-requires c κs = c .before .before .loop3 .inv .2 .receives .row
+
 set-messages-requires : tie.Need-set-messages-requires Inv-loop μ-loop Inv-loop2 μ-loop2 Inv-loop3 μ-loop3
 set-messages-requires c κs =
-    let h = c .before .before .loop3 .inv .2 .receives in
-    row-N _ _ _ (h .row) _ (h .card)
+    let marked = c .before .before .before in
+    let h = marked .before .before .before .loop3 .inv .2 .receives in
+    rw (marked .mark .kept .0) (row-N _ _ _ (h .row) _ (h .card))
 
-same-length-3 : tie.Need-same-length-3 Inv-loop μ-loop Inv-loop2 μ-loop2 Inv-loop3 μ-loop3
-same-length-3 c = search needs
+same-length-4 : tie.Need-same-length-4 Inv-loop μ-loop Inv-loop2 μ-loop2 Inv-loop3 μ-loop3
+same-length-4 c = search needs
 
-returns-7 : tie.Need-returns-7 Inv-loop μ-loop Inv-loop2 μ-loop2 Inv-loop3 μ-loop3
-returns-7 c =
+returns-8 : tie.Need-returns-8 Inv-loop μ-loop Inv-loop2 μ-loop2 Inv-loop3 μ-loop3
+returns-8 c =
     let stored = c .before .before in
-    let after = stored .before .before in
+    let marked = stored .before .before .before .before in
+    let after = marked .before .before in
     let at = after .before in
     let judged-all = at .before .before in
     let shared = shared-of (judged-all .before) in
-    let sized = shared .before .before .before in
+    let sized = sized-of shared in
     let read = read-of shared in
     let count = count-of (ranged-of read) in
     let es = entries count in
     let cleared = clearing-ends _ _ _ _ es (words-of count) (at .loop3 .applied) _ (at .loop3 .inv .2) (rw (length-entries-at _ _ _) (after .loop3-test .left)) in
     let fine = entries-done _ es (judged-all .before .loop2 .judged) (judged-all .before .loop2 .inv .2) (rw (length-entries-at _ _ _) (judged-all .loop2-test .left)) in
     was-taken (words-of count) (got count) (none shared) _ (sym (judged-as (judged-all .before)) ∙ fine)
-    (stored .set-messages .ensures ∙ clear-after (words-of count) (at .loop3 .words) (got count) _ _ es (sized .cards-of .ensures) refl (passed shared) cleared)
+    (stored .set-messages .ensures ∙ rw (marked .mark .ensures) (clear-after (words-of count) (at .loop3 .words) (got count) _ _ es (sized .cards-of .ensures) refl (passed shared) cleared))
     ∙ whole read
 
 pub take-clear-spec : {M : Type 1} → statement M
@@ -471,10 +505,15 @@ take-clear-spec =
     loop-less
     loop-again
     cards-of-requires
-    refusal-of-requires
+    is-row-fit-requires
+    row-refusal-requires
     refused-requires-5
     same-length
     returns-5
+    sender-refusal-requires
+    refused-requires-6
+    same-length-2
+    returns-6
     own-card-requires
     cast-sender
     increments-at-requires
@@ -483,9 +522,9 @@ take-clear-spec =
     mul-e-2
     element-copy-out-e
     is-entry-plausible-requires
-    refused-requires-6
-    same-length-2
-    returns-6
+    refused-requires-7
+    same-length-3
+    returns-7
     add-judged
     loop2-less
     loop2-again
@@ -497,6 +536,7 @@ take-clear-spec =
     add-applied
     loop3-less
     loop3-again
+    mark-requires
     set-messages-requires
-    same-length-3
-    returns-7)
+    same-length-4
+    returns-8)
