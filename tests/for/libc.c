@@ -25,6 +25,17 @@ void *memcpy(void *restrict to, const void *restrict from, size_t n)
     return to;
 }
 
+void *memmove(void *to, const void *from, size_t n)
+{
+    char *t = to;
+    const char *f = from;
+    for (size_t i = 0; t < f && i < n; i++)
+        t[i] = f[i];
+    for (size_t i = n; t > f && i > 0; i--)
+        t[i - 1] = f[i - 1];
+    return to;
+}
+
 void *memset(void *to, int value, size_t n)
 {
     char *t = to;
