@@ -10,14 +10,14 @@ use Rattle.std.proofs.Math.Numerals.{add-one}
 use Rattle.std.proofs.Math.ListN.{drop}
 use Rattle.std.proofs.Math.Seq.{drop_at, drop-drop}
 use Rattle.protocol.specs.Limits.{most_cards, most_counters}
-use Rattle.protocol.specs.Cases.{by_place}
+use Rattle.protocol.proofs.Cases.{by_place}
 use Rattle.replica_model.specs.Layout.{replica_length, fresh_words}
 use Rattle.replica_model.specs.Calls.{sizes_in_range, replica_fits, open_on}
 use Rattle.replica_model.specs.ClaimTerms.{Sizes}
-use Rattle.replica_model.specs.RowLaws.{sizes, tests}
+use Rattle.replica_model.proofs.RowLaws.{sizes, tests}
 use Rattle.chassis_model.specs.ListParts.{put_part}
 use Rattle.chassis_model.specs.Run.{answer_length, chassis_fits, sizes_right, fresh_replicas}
-use Rattle.chassis_model.specs.FreshRun.{fresh_length}
+use Rattle.chassis_model.proofs.FreshRun.{fresh_length}
 
 -- ---- sizes
 

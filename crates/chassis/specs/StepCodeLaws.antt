@@ -7,7 +7,7 @@ use mathlib.Core.List.{List, [], ◌∷◌, ◌++◌}
 use Rattle.std.proofs.lemmas.List.Edits.{sets}
 use Rattle.protocol.specs.Limits.{most_cards, most_counters, short_output, bad_counter, bad_card, nothing_waiting, log_full, bad_amount}
 use Rattle.protocol.specs.Checks.{Check, or_else, checked, first_failing, Gives}
-use Rattle.protocol.specs.ChecksLaws.{first_refuses, first_passes}
+use Rattle.protocol.proofs.ChecksLaws.{first_refuses, first_passes}
 use Rattle.protocol.specs.RoundRobin.{IsLink}
 use Rattle.wire.specs.Message.{version_2, called_length}
 use Rattle.replica_model.specs.declared.Cleared.{Cleared}
@@ -16,7 +16,7 @@ use Rattle.replica_model.specs.Layout.{replica_length}
 use Rattle.replica_model.specs.Calls.{ClearedOutcome, TakeOutcome, take_on}
 use Rattle.chassis_model.specs.ListParts.{part, put_part}
 use Rattle.chassis_model.specs.Log.{waiting_part}
-use Rattle.chassis_model.specs.ListPartsLaws.{part_room, part_length}
+use Rattle.chassis_model.proofs.ListPartsLaws.{part_room, part_length}
 use Rattle.chassis_model.specs.declared.Making.{Making}
 use Rattle.chassis_model.specs.declared.Action.{Action}
 use Rattle.chassis_model.specs.declared.Action.TheVariants.{Make, Deliver}
@@ -24,8 +24,8 @@ use Rattle.chassis_model.specs.declared.Step.{Step}
 use Rattle.chassis_model.specs.declared.StepAnswer.{StepAnswer}
 pub use Rattle.chassis_model.specs.Run.{state_of}
 use Rattle.chassis_model.specs.Run.{call_of, State, Stepped, answered, answer_words, answer_length, N_at, made, delivered, declined, step_checks, performed, acted, step_on, state_after, answers_of}
-use Rattle.chassis_model.specs.StepLaws.{is_link, link_test, performed_is, declined_is, link_passes}
-use Rattle.chassis_model.specs.Places.{link_place, Reached, WaitsAt, free_place_is, place_inside, waits_at, made_reached, delivered_reached}
+use Rattle.chassis_model.proofs.StepLaws.{is_link, link_test, performed_is, declined_is, link_passes}
+use Rattle.chassis_model.proofs.Places.{link_place, Reached, WaitsAt, free_place_is, place_inside, waits_at, made_reached, delivered_reached}
 use Rattle.chassis.specs.declared.Sizes.{Sizes}
 use Rattle.chassis.specs.declared.stepping.Handed.{Handed}
 

@@ -1,7 +1,7 @@
 // A run of steps that are lent as bytes.
 ghost use Rattle.std.specs.Prelude.{◌≡◌, ◌*◌, length, replicate};
 ghost use Rattle.chassis_model.specs.Run.{RunOutcome, answer_length, run_bytes_on, step_length, steps_of};
-ghost use Rattle.chassis_model.specs.Places.{links};
+ghost use Rattle.chassis_model.proofs.Places.{links};
 ghost use Rattle.chassis.specs.StepCodeLaws.{StepReady, RunDone};
 
 use crate::{Sizes, begin, stepping, steps};

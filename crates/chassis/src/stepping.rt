@@ -7,7 +7,7 @@ ghost use Rattle.protocol.specs.RoundRobin.{IsLink};
 ghost use Rattle.wire.specs.Message.{version_2, clear_length, called_length};
 ghost use Rattle.replica_model.specs.Calls.{ClearedOutcome};
 ghost use Rattle.chassis_model.specs.Run.{action_of, amount_fits, call_of, N_at, answered, answer_words, answer_length};
-ghost use Rattle.chassis_model.specs.Places.{link_place, links};
+ghost use Rattle.chassis_model.proofs.Places.{link_place, links};
 ghost use Rattle.chassis.specs.PartOf.{PartOf};
 ghost use Rattle.chassis.specs.StepCodeLaws.{WordsFit, state_of, HandReady, HandedOver, StepReady, StepDone, appended, StepAnswered, maker_own_checks, link_own_checks};
 
@@ -174,7 +174,7 @@ fn next_message(log: &[u8], at: usize) -> &[u8]
 }
 
 // What take answered to a message that was handed over, and the place behind that message.
-#[derive(Drop)]
+#[derive(Clone, Copy)]
 pub struct Handed {
     pub number: u64,
     pub behind: u64,

@@ -1,10 +1,11 @@
 // What a chassis of several cards joined by logs is and what a run of steps does. The crate holds definitions and claims (specs/) and no
 // function; the types stand here so that the definitions' and the code's are the same.
+#![tactic(auto)]
 
 // One step of a run: 1 count (card, counter), 2 clear (card, counter), 3 deliver (receiver, sender), 4 read and clear (card, counter). A count
 // has its amount, the others have 0 there.
 #[repr(C)]
-#[derive(Drop)]
+#[derive(Clone, Copy)]
 pub struct Step {
     pub kind: u32,
     pub first: u32,
@@ -13,7 +14,7 @@ pub struct Step {
 }
 
 // What a card makes in a step: a count by an amount, a clear, or a clear whose value is read just before.
-#[derive(Drop)]
+#[derive(Clone, Copy)]
 pub enum Making {
     Count(u32),
     Clear,
@@ -21,7 +22,7 @@ pub enum Making {
 }
 
 // What a step asks for: that a card makes a message on a counter, that a receiver is handed a sender's message, or nothing that there is.
-#[derive(Drop)]
+#[derive(Clone, Copy)]
 pub enum Action {
     Make(Making, u32, u32),
     Deliver(u32, u32),
@@ -29,7 +30,7 @@ pub enum Action {
 }
 
 // What a step answers: its number, and the value read.
-#[derive(Drop)]
+#[derive(Clone, Copy)]
 pub struct StepAnswer {
     pub number: u64,
     pub value: u64,
@@ -37,7 +38,7 @@ pub struct StepAnswer {
 
 // What delivering what waits answers: its number, and how many deliveries it made.
 #[repr(C)]
-#[derive(Drop)]
+#[derive(Clone, Copy)]
 pub struct Delivered {
     pub number: u64,
     pub deliveries: u64,
@@ -45,7 +46,7 @@ pub struct Delivered {
 
 // A part of a list of bytes, by its place: where it starts, and how long it is.
 #[repr(C)]
-#[derive(Drop)]
+#[derive(Clone, Copy)]
 pub struct Span {
     pub start: u64,
     pub length: u64,

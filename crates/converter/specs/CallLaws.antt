@@ -6,7 +6,7 @@ use Rattle.protocol.specs.Limits.{short_output, unreadable, above_one}
 use Rattle.wire.specs.Number.{Bytes, int_width}
 use Rattle.wire.specs.Message.{version_1, version_2, messages_in, is_log, WriteOutcome, write_declined, over}
 use Rattle.conversion.specs.Conversion.{converted, all_by_one, to_version_2_on, to_version_1_on}
-use Rattle.conversion.specs.ConversionLaws.{length_converted_up, length_converted_down}
+use Rattle.conversion.proofs.ConversionLaws.{length_converted_up, length_converted_down}
 use Rattle.converter.specs.MeasureLaws.{Measured}
 
 module _ (s out : List ℕ) (found by_one : Bool) (count : ℕ) (h : Measured version_1 s found by_one count) where

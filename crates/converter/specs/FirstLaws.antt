@@ -5,12 +5,12 @@ use Rattle.std.proofs.Common.{◌∙◌, append-nil, drop_of_length-le, take_all
 use native.Mathlib.Omega.{arith}
 use Rattle.std.proofs.Math.ListN.{length, length-append, length-drop}
 use borrow.Author.Tests.{eq-eqb, ne_eqb, eqb-true}
-use Rattle.protocol.specs.Cases.{by_place, by_test, not_yes}
+use Rattle.protocol.proofs.Cases.{by_place, by_test, not_yes}
 use Rattle.wire.specs.Number.{Bytes}
 use Rattle.wire.specs.Message.{shortest_message, called_length, reads, front_length, log_bytes, messages_in, is_log}
 use Rattle.wire.specs.Claims.{read_is_written}
 use Rattle.wire.specs.RoundTrips.{read_long}
-use Rattle.conversion.specs.LogLaws.{bytes_take, front_there, messages_none, messages_next}
+use Rattle.conversion.proofs.LogLaws.{bytes_take, front_there, messages_none, messages_next}
 
 -- what follows `at`, as a part that runs to the end
 pub rest_is : (at : ℕ) (l : List ℕ) → take (length l - at) (drop at l) ≡ drop at l

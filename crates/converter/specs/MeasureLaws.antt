@@ -6,14 +6,14 @@ use Rattle.std.proofs.Math.Bool.{and_assoc, and-true}
 use Rattle.std.proofs.lemmas.Bool.{false≢true}
 use mathlib.Core.List.{List, [], ◌∷◌}
 use Rattle.std.proofs.Math.ListN.{drop, drop_of_length-le}
-use Rattle.protocol.specs.Cases.{by_test}
+use Rattle.protocol.proofs.Cases.{by_test}
 use Rattle.wire.specs.Number.{Bytes, int_width, int_at}
 use Rattle.wire.specs.declared.Message.{Message}
 use Rattle.wire.specs.Message.{increment_kind, clear_kind, kind_at, amount_at, amount_in, increment_message, clear_message, message_at, front_length, log_bytes, messages_from, messages_in, is_log}
 use Rattle.wire.specs.RoundTrips.{read_clear, read_increment}
 use Rattle.conversion.specs.Conversion.{all_by_one}
 use Rattle.conversion.specs.ClaimTerms.{one_if_increment, increments}
-use Rattle.conversion.specs.LogLaws.{bytes_drop, front_there, messages_next}
+use Rattle.conversion.proofs.LogLaws.{bytes_drop, front_there, messages_next}
 use Rattle.converter.specs.FirstLaws.{first_long, no_log, log_rest}
 
 -- ---- one message

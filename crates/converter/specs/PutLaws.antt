@@ -7,8 +7,8 @@ use Rattle.std.proofs.Math.ListN.{drop, drop_of_length-le}
 use Rattle.std.proofs.lemmas.List.Edits.{sets}
 use Rattle.std.proofs.Math.Seq.{length-sets, paste-suc}
 use Rattle.std.proofs.lemmas.List.{drop-append-le}
-use Rattle.protocol.specs.Cases.{by_test}
-use Rattle.protocol.specs.StoredLists.{sets_append, sets_front}
+use Rattle.protocol.proofs.Cases.{by_test}
+use Rattle.protocol.proofs.StoredLists.{sets_append, sets_front}
 use Rattle.wire.specs.Number.{Bytes, int_width, hyper_width, int_at, hyper_at, unsigned_int, unsigned_hyper}
 use Rattle.wire.specs.NumberLaws.{length_bytes_of, number_joined}
 use Rattle.wire.specs.declared.Message.{Message}
@@ -16,7 +16,7 @@ use Rattle.wire.specs.Message.{has_amount, increment_kind, clear_kind, increment
 use Rattle.wire.specs.Claims.{read_is_written, message_bytes_length}
 use Rattle.wire.specs.RoundTrips.{readable, read_clear, read_increment, read_long}
 use Rattle.conversion.specs.Conversion.{in_version, converted}
-use Rattle.conversion.specs.LogLaws.{bytes_drop, front_there, messages_next}
+use Rattle.conversion.proofs.LogLaws.{bytes_drop, front_there, messages_next}
 use Rattle.converter.specs.FirstLaws.{log_first, log_rest}
 
 -- the bytes of a message in another version, of one that stands alone and of the first of a log

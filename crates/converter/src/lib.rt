@@ -1,4 +1,6 @@
 // A log of messages in the other version. The whole log is tested and measured first, then written: a refusal leaves every byte.
+#![tactic(auto)]
+
 ghost use Rattle.std.specs.Prelude.{◌≡◌};
 ghost use Rattle.wire.specs.Message.{WriteOutcome};
 ghost use Rattle.conversion.specs.Conversion.{to_version_2_on, to_version_1_on};

@@ -7,7 +7,7 @@ ghost use Rattle.converter.specs.MeasureLaws.{Measured};
 use wire::{decode, reader};
 
 // Whether the bytes are messages of the version end to end; and if they are, whether no amount is above 1, and how many are increments.
-#[derive(Drop)]
+#[derive(Clone, Copy)]
 pub(crate) struct Found {
     pub is_log: bool,
     pub by_one: bool,
@@ -15,7 +15,7 @@ pub(crate) struct Found {
 }
 
 // The same of one message.
-#[derive(Drop)]
+#[derive(Clone, Copy)]
 struct Seen {
     pub by_one: bool,
     pub increments: usize,

@@ -73,7 +73,7 @@ fn put_message(message: &[u8], to: u32, out: &mut [u8]) -> usize
 }
 
 // How far a message takes the two positions.
-#[derive(Drop)]
+#[derive(Clone, Copy)]
 struct Moved {
     pub read: usize,
     pub written: usize,

@@ -1,5 +1,7 @@
 // A test of `text` as it is built, since no listing has a number of more than three digits: writes the first 1,024 numbers that standard input holds,
 // unsigned hypers of RFC 4506, as decimal text, each on a line of its own. A number of 10^16 or more gives an empty line.
+#![tactic(auto)]
+
 ghost use Rattle.std.specs.Prelude.{◌≡◌, ◌+◌, ◌*◌, ◌≤◌, length, take};
 
 use libc::{STDIN_FILENO, STDOUT_FILENO};

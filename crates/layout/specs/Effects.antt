@@ -6,10 +6,10 @@ use Rattle.protocol.specs.declared.Entry.{Entry}
 use Rattle.protocol.specs.declared.ClearEntry.{ClearEntry}
 use Rattle.protocol.specs.Entry.{incremented, cleared}
 use Rattle.protocol.specs.Chassis.{Message, increment, clearing, counter_of}
-use Rattle.protocol.specs.StoreLaws.{CardsBelow, cleared_words, taken_words, cleared_C, cleared_N}
+use Rattle.protocol.proofs.StoreLaws.{CardsBelow, cleared_words, taken_words, cleared_C, cleared_N}
 use Rattle.wire.specs.Message.{no_entry}
 use Rattle.replica_model.specs.Layout.{cards, counters, C_of, N_of, entry_of, set_C, set_N, set_entry, mark, layout}
-use Rattle.replica_model.specs.LayoutLaws.{lawful, set_C_same, set_entry_length}
+use Rattle.replica_model.proofs.LayoutLaws.{lawful, set_C_same, set_entry_length}
 use Rattle.replica_model.specs.Calls.{words_after}
 use Rattle.layout.specs.WordsLaws.{RowInside, row_entry}
 

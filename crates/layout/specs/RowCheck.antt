@@ -9,16 +9,16 @@ use Rattle.std.proofs.lemmas.Nat.{or_lt, and_le_l, and_le_r}
 use Rattle.std.specs.Int.Bits.{or_add_and}
 use borrow.Author.Count.{below_none, below_more}
 use Rattle.protocol.specs.Limits.{MAX}
-use Rattle.protocol.specs.Cases.{by_test, by_le, by_place, not_yes, agrees_true, agrees_false, agrees_yes, agrees_no}
+use Rattle.protocol.proofs.Cases.{by_test, by_le, by_place, not_yes, agrees_true, agrees_false, agrees_yes, agrees_no}
 use Rattle.protocol.specs.Functions.{agrees}
-use Rattle.protocol.specs.BitLaws.{any_none}
+use Rattle.protocol.proofs.BitLaws.{any_none}
 use Rattle.protocol.specs.Entry.{present, has_entry}
 use Rattle.protocol.specs.declared.Entry.{Entry}
 use Rattle.protocol.specs.Acceptance.{entry_well_formed}
-use Rattle.protocol.specs.AcceptanceLaws.{entry_from}
+use Rattle.protocol.proofs.AcceptanceLaws.{entry_from}
 use Rattle.replica_model.specs.Layout.{cards, own_card, head_length, at_N, active_of, C_of, entry_of}
 use Rattle.replica_model.specs.ClaimTerms.{RowOf}
-use Rattle.replica_model.specs.RowLaws.{row_facts, row_from, row_unmarked}
+use Rattle.replica_model.proofs.RowLaws.{row_facts, row_from, row_unmarked}
 use Rattle.replica_model.specs.Calls.{row_well_formed}
 
 -- what an entry of a well-formed row is, but for its bound

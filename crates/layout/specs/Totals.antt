@@ -3,7 +3,7 @@ use Rattle.std.specs.Prelude.{◌≡◌, ℕ, zero, suc, ◌+◌, ◌-◌, ◌*�
 use Rattle.std.proofs.Common.{suc-mul, add-one, arith}
 use mir.Val.{bool_byte}
 use Rattle.protocol.specs.Limits.{MAX}
-use Rattle.protocol.specs.Tables.{sum}
+use Rattle.protocol.proofs.Tables.{sum}
 use Rattle.protocol.specs.declared.Entry.{Entry}
 use Rattle.protocol.specs.Rows.{WellFormed}
 

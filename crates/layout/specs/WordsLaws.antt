@@ -4,15 +4,15 @@ use Rattle.std.specs.Prelude.{◌≡◌, ℕ, suc, ◌+◌, ◌*◌, ◌^◌, �
 use Rattle.std.proofs.Common.{sym, ap, ◌∙◌, mul-le-mul, arith, length-set, get_or-set_same, get_or-set_other, set-set, ne_eqb}
 use Rattle.std.proofs.lemmas.List.{set_comm}
 use Rattle.protocol.specs.Limits.{most_cards, most_counters}
-use Rattle.protocol.specs.Cases.{and_no_left, and_no_right}
-use Rattle.protocol.specs.BitLaws.{with_bit, with_bit_again, any_some}
-use Rattle.protocol.specs.Tables.{put_same, put_other, put_same_row}
+use Rattle.protocol.proofs.Cases.{and_no_left, and_no_right}
+use Rattle.protocol.proofs.BitLaws.{with_bit, with_bit_again, any_some}
+use Rattle.protocol.proofs.Tables.{put_same, put_other, put_same_row}
 use Rattle.protocol.specs.Entry.{present, has_entry}
 use Rattle.protocol.specs.declared.Entry.{Entry}
 use Rattle.replica_model.specs.Layout.{cards, counters, own_card, head_length, replica_length, at_active, at_C, at_N, at_entry, active_word, C_of, N_of, entry_of, set_three, set_entry, set_active, mark, Fits, fresh_words}
-use Rattle.replica_model.specs.LayoutLaws.{lawful, cell_below, fits_entry, fits_active, head_active, same_cards, same_counters}
+use Rattle.replica_model.proofs.LayoutLaws.{lawful, cell_below, fits_entry, fits_active, head_active, same_cards, same_counters}
 use Rattle.replica_model.specs.ClaimTerms.{Right}
-use Rattle.replica_model.specs.RowLaws.{tests, right_after}
+use Rattle.replica_model.proofs.RowLaws.{tests, right_after}
 use Rattle.replica_model.specs.Calls.{sizes_in_range, replica_fits, right}
 
 -- ---- places inside the words: the head, C[j], N[j], and row q of a right replica of r cards

@@ -8,11 +8,11 @@ use Rattle.replica_model.specs.ClaimTerms as terms
 use Rattle.chassis_model.specs.ListParts.{part}
 use Rattle.chassis_model.specs.Log.{waiting_part, end_of}
 use Rattle.chassis_model.specs.Run.{state_of}
-use Rattle.chassis_model.specs.InStep.{Heads}
-use Rattle.chassis_model.specs.Ends.{ends_in}
-use Rattle.chassis_model.specs.Places.{link_place, PlacesOf}
+use Rattle.chassis_model.proofs.InStep.{Heads}
+use Rattle.chassis_model.proofs.Ends.{ends_in}
+use Rattle.chassis_model.proofs.Places.{link_place, PlacesOf}
 use Rattle.chassis_model.specs.Pending.{is_numbered, log_right}
-use Rattle.chassis_model.specs.PendingChecked.{Checked}
+use Rattle.chassis_model.proofs.PendingChecked.{Checked}
 use Rattle.chassis.specs.declared.Sizes.{Sizes}
 use Rattle.chassis.specs.StepCodeLaws.{WordsFit}
 

@@ -9,23 +9,23 @@ use native.Mathlib.Omega.{arith}
 use Rattle.std.proofs.Math.ListN.{length}
 use borrow.Author.Tests.{leb-true, eq-eqb, ne_eqb, lt-ltb, le-ltb}
 use Rattle.protocol.specs.Limits.{most_cards}
-use Rattle.protocol.specs.Cases.{by_test, by_place, by_le, and_yes, and_left, and_right, and_no_left, and_no_right, not_yes}
+use Rattle.protocol.proofs.Cases.{by_test, by_place, by_le, and_yes, and_left, and_right, and_no_left, and_no_right, not_yes}
 use Rattle.protocol.specs.Functions.{all_below}
-use Rattle.protocol.specs.AcceptanceLaws.{tests, below_facts, below_from}
+use Rattle.protocol.proofs.AcceptanceLaws.{tests, below_facts, below_from}
 use Rattle.wire.specs.Number.{int_at, hyper_at}
 use Rattle.wire.specs.Message.{clear_kind, shortest_message, kind_at, sender_at, sequence_at, increment_message, clear_message}
 use Rattle.wire.specs.Message.{version_2, called_length, message_at, reads, front_length}
 use Rattle.wire.specs.Claims.{front_reads}
 use Rattle.wire.specs.RoundTrips.{read_long}
 use Rattle.chassis_model.specs.ListParts.{part}
-use Rattle.chassis_model.specs.ListPartsLaws.{part_length}
+use Rattle.chassis_model.proofs.ListPartsLaws.{part_length}
 use Rattle.chassis_model.specs.Log.{waiting_part, end_of}
-use Rattle.chassis_model.specs.LogLaws.{waiting_here, waiting_none, waiting_next}
+use Rattle.chassis_model.proofs.LogLaws.{waiting_here, waiting_none, waiting_next}
 use Rattle.chassis_model.specs.Run.{State, state_of, log_of, N_at}
-use Rattle.chassis_model.specs.Ends.{ends_within, ends_in}
-use Rattle.chassis_model.specs.Places.{links, link_place, WaitsAt}
+use Rattle.chassis_model.proofs.Ends.{ends_within, ends_in}
+use Rattle.chassis_model.proofs.Places.{links, link_place, WaitsAt}
 use Rattle.chassis_model.specs.Pending.{is_numbered, begins_with, log_right}
-use Rattle.chassis_model.specs.PendingChecked.{Checked}
+use Rattle.chassis_model.proofs.PendingChecked.{Checked}
 use Rattle.chassis.specs.declared.Sizes.{Sizes}
 use Rattle.lent.specs.Lent.{received_in, Lent, numbered_length, Missing, Walked, nearer, NextStop, Marked, Found, AllFound}
 

@@ -2,7 +2,7 @@
 ghost use Rattle.std.specs.Prelude.{◌≡◌, cond, ◌+◌, ◌≤◌, ◌<◌, length, drop, leb};
 ghost use Rattle.protocol.specs.Functions.{all_below};
 ghost use Rattle.chassis_model.specs.Log.{end_of};
-ghost use Rattle.chassis_model.specs.Places.{links};
+ghost use Rattle.chassis_model.proofs.Places.{links};
 ghost use Rattle.chassis.specs.StepCodeLaws.{WordsFit};
 ghost use Rattle.lent.specs.Lent.{Lent, received_in, numbered_length, nearer, Walked, NextStop, Marked, Found, AllFound};
 
@@ -27,7 +27,7 @@ fn message_length(log: &[u8], at: usize, sender: usize, number: u64) -> usize
 }
 
 // How far a walk along a log came.
-#[derive(Drop)]
+#[derive(Clone, Copy)]
 struct WalkMade {
     pub ok: bool,
     pub at: usize,

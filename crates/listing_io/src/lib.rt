@@ -1,4 +1,6 @@
 // Standard input to standard output: what the program and its further test programs, one for each input, have in common.
+#![tactic(auto)]
+
 use libc::{STDIN_FILENO, STDOUT_FILENO};
 use listing::list;
 

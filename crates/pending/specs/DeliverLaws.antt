@@ -4,14 +4,14 @@ use Rattle.std.specs.Prelude.{ℕ, ◌≡◌, Bool, true, false, List, length}
 use Rattle.std.proofs.Common.{sym, ◌∙◌}
 use Rattle.protocol.specs.Limits.{bad_sizes, bad_replica, bad_row, bad_log}
 use Rattle.protocol.specs.Functions.{all_below}
-use Rattle.protocol.specs.AcceptanceLaws.{below_facts}
+use Rattle.protocol.proofs.AcceptanceLaws.{below_facts}
 use Rattle.replica_model.specs.Layout.{replica_length}
 use Rattle.replica_model.specs.Calls.{in_place, row_well_formed}
 use Rattle.replica_model.specs.ClaimTerms as terms
-use Rattle.replica_model.specs.RowLaws.{sizes, tests}
+use Rattle.replica_model.proofs.RowLaws.{sizes, tests}
 use Rattle.chassis_model.specs.Run.{state_of, chassis_fits}
 use Rattle.chassis_model.specs.Pending.{log_right, DeliverOutcome, none_delivered, deliver_pending_on}
-use Rattle.chassis_model.specs.PendingChecked.{passes_checked}
+use Rattle.chassis_model.proofs.PendingChecked.{passes_checked}
 use Rattle.chassis.specs.declared.Sizes.{Sizes}
 use Rattle.chassis.specs.StepCodeLaws.{WordsFit}
 use Rattle.lent.specs.Lent.{replica_in, Lent, InPlace, AllFound, PumpReady}

@@ -3,11 +3,11 @@
 use Rattle.std.specs.Prelude.{ℕ, ◌+◌, ◌*◌, ◌/◌, ◌%◌, ◌≤◌, ◌<◌, ◌≡◌, Bool, cond, ◌&&◌, List, [], ◌∷◌, ◌++◌, map, ltb, length, take}
 use Rattle.protocol.specs.Limits.{most_cards}
 use Rattle.protocol.specs.RoundRobin.{Link, link, IsLink, Transport}
-use Rattle.protocol.specs.RoundRobinOpen.{waiting_to, waiting_links, serve, Visits}
+use Rattle.protocol.proofs.RoundRobinOpen.{waiting_to, waiting_links, serve, Visits}
 use Rattle.chassis_model.specs.Run.{State, state_of}
-use Rattle.chassis_model.specs.Places.{links}
+use Rattle.chassis_model.proofs.Places.{links}
 use Rattle.chassis_model.specs.Pending as pending
-use Rattle.chassis_model.specs.PendingChecked.{Checked, checked_orderly}
+use Rattle.chassis_model.proofs.PendingChecked.{Checked, checked_orderly}
 use Rattle.chassis.specs.declared.Sizes.{Sizes}
 use Rattle.lent.specs.Lent.{received_in, PumpReady}
 

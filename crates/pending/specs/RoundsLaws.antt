@@ -6,15 +6,15 @@ use Rattle.std.proofs.Common.{ap, ◌∙◌, true≢false, inl, inr, mul-le-mul,
 use mathlib.Core.List.{List, [], ◌∷◌, ◌++◌, map-append, append_assoc, append-nil}
 use Rattle.std.proofs.lemmas.List.{length-map, take-set-le}
 use Rattle.protocol.specs.Limits.{most_cards}
-use Rattle.protocol.specs.Cases.{by_le, by_test, and_yes}
+use Rattle.protocol.proofs.Cases.{by_le, by_test, and_yes}
 use Rattle.protocol.specs.RoundRobin.{Link, link, Orderly}
-use Rattle.protocol.specs.RoundRobinOpen.{waiting_to, waiting_links, Served, serve, serve_none, serve_full, serve_room, serve_less, visits_next, Serving, serving_begins, serving_visits, serving_next, serving_done}
+use Rattle.protocol.proofs.RoundRobinOpen.{waiting_to, waiting_links, Served, serve, serve_none, serve_full, serve_room, serve_less, visits_next, Serving, serving_begins, serving_visits, serving_next, serving_done}
 use Rattle.wire.specs.Message.{version_2, called_length}
 use Rattle.chassis_model.specs.ListParts.{part}
 use Rattle.chassis_model.specs.Run.{State, state_of, N_at, delivered}
-use Rattle.chassis_model.specs.Ends.{ends_in}
-use Rattle.chassis_model.specs.Places.{links, link_place, places_move}
-use Rattle.chassis_model.specs.PendingChecked.{Checked, N_here, N_there, checked_after, checked_orderly}
+use Rattle.chassis_model.proofs.Ends.{ends_in}
+use Rattle.chassis_model.proofs.Places.{links, link_place, places_move}
+use Rattle.chassis_model.proofs.PendingChecked.{Checked, N_here, N_there, checked_after, checked_orderly}
 use Rattle.chassis.specs.declared.Sizes.{Sizes}
 use Rattle.chassis.specs.declared.stepping.Handed.{Handed}
 use Rattle.chassis.specs.StepCodeLaws.{HandReady, HandedOver}

@@ -1,3 +1,5 @@
 // Delivering what waits, in rounds, over the words and logs of a run.
+#![tactic(auto)]
+
 pub mod deliver;
 mod rounds;

@@ -1,7 +1,7 @@
 // Rounds over the links that are open: one waits on them, and they are not passed over. What is done for each delivery is one take; a link on which nothing
 // waits any more, or whose message take declines, is left out of the rounds that follow.
 ghost use Rattle.std.specs.Prelude.{◌≡◌, ◌+◌, ◌≤◌, ◌<◌, length};
-ghost use Rattle.chassis_model.specs.Places.{links};
+ghost use Rattle.chassis_model.proofs.Places.{links};
 ghost use Rattle.chassis.specs.StepCodeLaws.{WordsFit};
 ghost use Rattle.lent.specs.Lent.{PumpReady};
 ghost use Rattle.pending.specs.Rounds.{Pushed, Listed, ListedTo, TurnReady, TurnDone, RoundReady, RoundDone, PumpDone};
@@ -58,7 +58,7 @@ fn list_open(sizes: Sizes, words: &[u64], list: &mut [u64; stepping::LINKS]) -> 
 }
 
 // What came of a link's turn: how many deliveries it made, and whether its link is still open, 0 or 1 each.
-#[derive(Drop)]
+#[derive(Clone, Copy)]
 struct TurnMade {
     pub made: u64,
     pub kept: usize,
@@ -92,7 +92,7 @@ fn turn(
 }
 
 // The deliveries made so far, and how many links are still open.
-#[derive(Drop)]
+#[derive(Clone, Copy)]
 struct RoundMade {
     pub made: u64,
     pub count: usize,

@@ -1,5 +1,6 @@
 // What every layer shares: the limits and refusal numbers (SPECIFICATION 1.1, 5.1), and the two kinds of entry.
 // The theory is in specs/; the structs stand here so that the theory's records and the code's structs are one type.
+#![tactic(auto)]
 
 // 2^48 - 1.
 pub const MAX: u64 = 281474976710655;
@@ -47,7 +48,7 @@ pub const BAD_AMOUNT: u64 = 16;
 pub const ABOVE_ONE: u64 = 17;
 
 // A replica's entry for one counter and one card: (p, n, c) of Algorithm 1, zeros where it is absent.
-#[derive(Drop)]
+#[derive(Clone, Copy)]
 pub struct Entry {
     pub p: u64,
     pub n: u64,
@@ -56,7 +57,7 @@ pub struct Entry {
 
 // An entry of a clear message: (j, p, c) of Algorithm 1.
 #[repr(C)]
-#[derive(Drop)]
+#[derive(Clone, Copy)]
 pub struct ClearEntry {
     pub card: u32,
     pub p: u64,

@@ -5,14 +5,14 @@ use Rattle.std.proofs.Math.Nat.{mul-le-mul_right, pow-le-pow_right, lt_of_lt_of_
 use native.Mathlib.Omega.{arith}
 use Rattle.std.proofs.Math.Dec.{lit<}
 use Rattle.protocol.specs.Limits.{MAX, most_cards}
-use Rattle.protocol.specs.Cases.{by_place}
+use Rattle.protocol.proofs.Cases.{by_place}
 use Rattle.protocol.specs.Entry.{present}
 use Rattle.protocol.specs.Chassis.{read_value, read_holders}
-use Rattle.protocol.specs.StoreLaws.{shown}
+use Rattle.protocol.proofs.StoreLaws.{shown}
 use Rattle.replica_model.specs.Layout.{cards, entry_of}
 use Rattle.replica_model.specs.Calls.{reading, read_on}
-use Rattle.replica_model.specs.RowLaws.{right_facts, row_facts}
-use Rattle.replica_model.specs.CallsLaws.{read_decided}
+use Rattle.replica_model.proofs.RowLaws.{right_facts, row_facts}
+use Rattle.replica_model.proofs.CallsLaws.{read_decided}
 use Rattle.layout.specs.Totals.{held_below}
 use Rattle.replica.specs.Sums.{bits_at, bits_below, ones_bits}
 

@@ -8,9 +8,9 @@ use Rattle.std.specs.Int.Count.{ones}
 use Rattle.std.proofs.lemmas.Nat.{ones_cat}
 use Rattle.std.proofs.Math.Pow.{high}
 use Rattle.protocol.specs.Limits.{MAX, most_cards}
-use Rattle.protocol.specs.Cases.{by_place}
-use Rattle.protocol.specs.BitLaws.{flag_below, flag_times, flag_part, low_bit}
-use Rattle.protocol.specs.Tables.{sum, bits}
+use Rattle.protocol.proofs.Cases.{by_place}
+use Rattle.protocol.proofs.BitLaws.{flag_below, flag_times, flag_part, low_bit}
+use Rattle.protocol.proofs.Tables.{sum, bits}
 use Rattle.protocol.specs.Functions.{count_below}
 use Rattle.replica_model.specs.Layout.{cards, entry_of}
 use Rattle.replica_model.specs.ClaimTerms.{RowOf}

@@ -9,17 +9,17 @@ use Rattle.std.proofs.Math.ListN.{length, get_or-append}
 use Rattle.std.proofs.lemmas.List.Edits.{sets}
 use Rattle.std.proofs.Math.Seq.{length-sets}
 use borrow.Author.Tests.{lt-ltb, le-ltb, le-leb, lt-leb, eq-eqb}
-use Rattle.protocol.specs.StoredLists.{sets_append, sets_set}
+use Rattle.protocol.proofs.StoredLists.{sets_append, sets_set}
 use Rattle.protocol.specs.Limits.{MAX, most_cards}
-use Rattle.protocol.specs.Cases.{by_test}
-use Rattle.protocol.specs.BitLaws.{any_below, any_cong}
+use Rattle.protocol.proofs.Cases.{by_test}
+use Rattle.protocol.proofs.BitLaws.{any_below, any_cong}
 use Rattle.protocol.specs.Rows.{WellFormed}
-use Rattle.protocol.specs.Tables.{sum}
+use Rattle.protocol.proofs.Tables.{sum}
 use Rattle.protocol.specs.declared.Entry.{Entry}
 use Rattle.protocol.specs.declared.ClearEntry.{ClearEntry}
 use Rattle.protocol.specs.Entry.{absent, present, has_entry, cleared}
 use Rattle.protocol.specs.Chassis.{Message, clearing, present_entries, read_value}
-use Rattle.protocol.specs.StoreLaws.{Store, CardsBelow, cleared_words, shown}
+use Rattle.protocol.proofs.StoreLaws.{Store, CardsBelow, cleared_words, shown}
 use Rattle.wire.specs.Number.{unsigned_int, unsigned_hyper}
 use Rattle.wire.specs.Message as form
 use Rattle.wire.specs.Message.{version_2, clear_kind, header_bytes_of, message_bytes, over, no_entry, entry_length, clear_length, count_at, first_entry_at, entry_p_at, entry_c_at, entry_bytes, entries_bytes}
@@ -27,11 +27,11 @@ use Rattle.wire.specs.NumberLaws.{length_bytes_of}
 use Rattle.wire.specs.EntriesLaws.{length_entries_bytes}
 use Rattle.wire.specs.WriteLaws.{clear_stored}
 use Rattle.replica_model.specs.Layout.{head_of, cards, counters, own_card, C_of, N_of, entry_of, set_N, set_entry, set_active, mark, layout}
-use Rattle.replica_model.specs.LayoutLaws.{lawful, set_C_same, set_entry_length, head_active, same_counters}
+use Rattle.replica_model.proofs.LayoutLaws.{lawful, set_C_same, set_entry_length, head_active, same_counters}
 use Rattle.replica_model.specs.Format.{format_2, size_of}
 use Rattle.replica_model.specs.Calls.{ClearedOutcome, sent_with, clear_of, reading, with_value, words_after}
-use Rattle.replica_model.specs.Senders.{Sending}
-use Rattle.replica_model.specs.PresentLaws.{entry_sent, present_next, present_fewer, present_few, present_below}
+use Rattle.replica_model.proofs.Senders.{Sending}
+use Rattle.replica_model.proofs.PresentLaws.{entry_sent, present_next, present_fewer, present_few, present_below}
 use Rattle.layout.specs.WordsLaws.{RowInside, head_inside, row_entry, row_active, put_here, put_elsewhere, mark_present, length_active, C_active, N_active, entry_active, entry_then_active, active_or}
 use Rattle.layout.specs.Effects.{Receives, with_message, clear_taken}
 use Rattle.layout.specs.Totals.{sum_turn, held, held_below}

@@ -8,13 +8,13 @@ use Rattle.protocol.specs.Limits.{MAX}
 use Rattle.protocol.specs.declared.Entry.{Entry}
 use Rattle.protocol.specs.Entry.{incremented, count_starts, count_p}
 use Rattle.protocol.specs.Chassis.{increment, count_message}
-use Rattle.protocol.specs.StoreLaws.{shown}
+use Rattle.protocol.proofs.StoreLaws.{shown}
 use Rattle.wire.specs.Message.{version_2, increment_length, message_bytes, increment_message, over}
 use Rattle.replica_model.specs.Layout.{cards, counters, own_card, C_of, N_of, entry_of, set_C, set_N, set_entry, mark}
-use Rattle.replica_model.specs.LayoutLaws.{lawful}
+use Rattle.replica_model.proofs.LayoutLaws.{lawful}
 use Rattle.replica_model.specs.Format.{format_2}
 use Rattle.replica_model.specs.Calls.{SendOutcome, sent_with, count_of, words_after}
-use Rattle.replica_model.specs.Senders.{Sending}
+use Rattle.replica_model.proofs.Senders.{Sending}
 use Rattle.layout.specs.Effects.{Receives, increment_taken}
 use Rattle.sending.specs.SendLaws.{sends_receives}
 

@@ -8,10 +8,10 @@ use Rattle.std.proofs.lemmas.List.Edits.{sets}
 use Rattle.std.proofs.lemmas.Bool.{lt-leb}
 use Rattle.protocol.specs.Limits.{MAX, most_amount, short_output}
 use Rattle.protocol.specs.Checks.{Check, or_else, checked, first_failing}
-use Rattle.protocol.specs.ChecksLaws.{first_refuses, first_passes, all_accepts, checked_append}
+use Rattle.protocol.proofs.ChecksLaws.{first_refuses, first_passes, all_accepts, checked_append}
 use Rattle.protocol.specs.Chassis.{Message, clearing, clear_message, present_entries}
-use Rattle.protocol.specs.StoreLaws.{shown}
-use Rattle.protocol.specs.StoredLists.{sets_append}
+use Rattle.protocol.proofs.StoreLaws.{shown}
+use Rattle.protocol.proofs.StoredLists.{sets_append}
 use Rattle.wire.specs.Number.{unsigned_int, unsigned_hyper}
 use Rattle.wire.specs.NumberLaws.{length_bytes_of}
 use Rattle.wire.specs.Message.{version_2, kind_at, sender_at, sequence_at, counter_at, header_bytes_of}
@@ -20,9 +20,9 @@ use Rattle.sending.specs.declared.making.Made.{Made}
 use Rattle.replica_model.specs.Layout.{cards, own_card, C_of, N_of, entry_of}
 use Rattle.replica_model.specs.Format.{format_2, size_of}
 use Rattle.replica_model.specs.Calls.{SendOutcome, ClearedOutcome, is_amount, making_checks, not_sent, sent_with, send_with, clear_of, clear_on, with_value, with_value_read, read_and_clear_on}
-use Rattle.replica_model.specs.Senders.{Sending}
-use Rattle.replica_model.specs.AcceptedCalls.{sending_facts}
-use Rattle.replica_model.specs.RowLaws.{tests}
+use Rattle.replica_model.proofs.Senders.{Sending}
+use Rattle.replica_model.proofs.AcceptedCalls.{sending_facts}
+use Rattle.replica_model.proofs.RowLaws.{tests}
 use Rattle.layout.specs.WordsLaws.{RowInside}
 use Rattle.layout.specs.Effects.{Receives}
 

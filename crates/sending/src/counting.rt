@@ -7,7 +7,7 @@ ghost use Rattle.wire.specs.Message.{version_2, increment_length};
 ghost use Rattle.replica_model.specs.Layout.{cards};
 ghost use Rattle.replica_model.specs.Format.{format_2};
 ghost use Rattle.replica_model.specs.Calls.{SendOutcome, is_amount, making_checks, sent_with, count_of, count_on, ClearedOutcome, with_value};
-ghost use Rattle.replica_model.specs.Senders.{Sending};
+ghost use Rattle.replica_model.proofs.Senders.{Sending};
 ghost use Rattle.sending.specs.SendLaws.{made_answer};
 
 use crate::making;

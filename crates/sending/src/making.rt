@@ -5,7 +5,7 @@ ghost use Rattle.sending.specs.SendLaws.{no_made};
 
 // All that a call answers, in another order than the exported answers have: one that is made from it right behind the call is then no copy of two numbers
 // at once, which would wait for the two stores before it.
-#[derive(Drop)]
+#[derive(Clone, Copy)]
 pub(crate) struct Made {
     pub sequence: u64,
     pub number: u64,

@@ -4,13 +4,13 @@ use Rattle.std.specs.Prelude.{ℕ, ◌+◌, max, ◌≤◌, ◌<◌, ◌≡◌, 
 use Rattle.std.proofs.Common.{sym, ◌∙◌, subst, arith, lt-ltb, le-ltb, le-leb, eq-eqb}
 use Rattle.std.proofs.Math.Path.{ap}
 use Rattle.std.proofs.lemmas.Bool.{lt-leb}
-use Rattle.protocol.specs.Cases.{by_le, by_place, by_test}
+use Rattle.protocol.proofs.Cases.{by_le, by_place, by_test}
 use Rattle.protocol.specs.declared.Entry.{Entry}
 use Rattle.protocol.specs.Entry.{absent, removeIf, raised, finished, incremented, lowered, settled, cleared}
-use Rattle.protocol.specs.Tables.{put, put_at, put_other, put_same_row}
+use Rattle.protocol.proofs.Tables.{put, put_at, put_other, put_same_row}
 use Rattle.protocol.specs.declared.ClearEntry.{ClearEntry}
 use Rattle.replica_model.specs.Layout.{cards, counters, C_of, entry_of}
-use Rattle.replica_model.specs.LayoutLaws.{entry_entry}
+use Rattle.replica_model.proofs.LayoutLaws.{entry_entry}
 use Rattle.replica_model.specs.ClaimTerms.{RowOf}
 use Rattle.layout.specs.WordsLaws.{RowInside}
 use Rattle.layout.specs.Effects.{entry_cleared}

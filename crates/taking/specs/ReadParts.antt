@@ -5,7 +5,7 @@ use Rattle.std.proofs.Common.{sym, ◌∙◌, arith}
 use Rattle.std.proofs.Math.ListN.{length}
 use Rattle.std.proofs.Math.Seq.{take-append_seam}
 use Rattle.protocol.specs.Limits.{most_cards, most_amount}
-use Rattle.protocol.specs.Cases.{by_test}
+use Rattle.protocol.proofs.Cases.{by_test}
 use Rattle.protocol.specs.Chassis.{increment, clearing}
 use Rattle.wire.specs.Number.{int_at, int_width}
 use Rattle.wire.specs.Message.{version_2, increment_kind, clear_kind, no_entry, entries_at, entries_in_range, from_one_to, increment_in_range, shortest_message, increment_body_length, increment_length, clear_length, increment_message, clear_message, reads, message_at, kind_at, amount_at}

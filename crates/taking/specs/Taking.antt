@@ -8,26 +8,26 @@ use Rattle.std.proofs.Math.Bool.{and_assoc, and-true, and-false, and-eq-true_iff
 use Rattle.std.proofs.Math.ListN.{get_or-append}
 use Rattle.std.proofs.lemmas.Bool.{lt-leb, eqb-false, not-true}
 use Rattle.protocol.specs.Limits.{MAX, most_cards, bad_row, bad_counter, unreadable, implausible}
-use Rattle.protocol.specs.Cases.{by_test, by_place, by_le, and_left, and_right}
+use Rattle.protocol.proofs.Cases.{by_test, by_place, by_le, and_left, and_right}
 use Rattle.protocol.specs.Checks.{Check, or_else, checked, first_failing}
-use Rattle.protocol.specs.ChecksLaws.{first_refuses, first_passes, all_accepts, checked_append}
+use Rattle.protocol.proofs.ChecksLaws.{first_refuses, first_passes, all_accepts, checked_append}
 use Rattle.protocol.specs.declared.ClearEntry.{ClearEntry}
 use Rattle.protocol.specs.Acceptance.{all_entries, entries_of, cards_known, increment_plausible, entry_plausible, plausible}
-use Rattle.protocol.specs.AcceptanceLaws.{known_sender, known_entries, increment_facts}
+use Rattle.protocol.proofs.AcceptanceLaws.{known_sender, known_entries, increment_facts}
 use Rattle.protocol.specs.Entry.{incremented}
 use Rattle.protocol.specs.Chassis.{Message, increment, clearing, counter_of}
-use Rattle.protocol.specs.StoreLaws.{CardsBelow, cleared_words, taken_words}
+use Rattle.protocol.proofs.StoreLaws.{CardsBelow, cleared_words, taken_words}
 use Rattle.wire.specs.Message.{version_2, no_entry, entry_at, entries_at, entry_length, entry_in_range, reads, message_at}
 use Rattle.wire.specs.declared.reader.Header.{Header}
 use Rattle.wire.specs.declared.reader.Increment.{Increment}
 use Rattle.wire.specs.EntriesLaws.{entries_at_more, length_entries_at}
 use Rattle.replica_model.specs.declared.Taken.{Taken}
 use Rattle.replica_model.specs.Layout.{cards, counters, own_card, C_of, N_of, entry_of, set_C, set_N, set_entry, mark, layout}
-use Rattle.replica_model.specs.LayoutLaws.{lawful}
+use Rattle.replica_model.proofs.LayoutLaws.{lawful}
 use Rattle.replica_model.specs.Format.{Received, received_of}
 use Rattle.replica_model.specs.Calls.{TakeOutcome, row_well_formed, message_checks, not_taken, taken_with, take_with, take_on, words_after}
 use Rattle.replica_model.specs.ClaimTerms.{Right, RowOf}
-use Rattle.replica_model.specs.RowLaws.{tests, right_from, row_facts}
+use Rattle.replica_model.proofs.RowLaws.{tests, right_from, row_facts}
 use Rattle.layout.specs.Effects.{Receives, increment_taken}
 use Rattle.taking.specs.ReadParts.{entries_from, increment_from}
 

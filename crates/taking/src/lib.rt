@@ -1,3 +1,5 @@
 // The call that takes another card's message.
+#![tactic(auto)]
+
 mod effect;
 pub mod take;

@@ -3,7 +3,7 @@
 use Rattle.std.specs.Prelude.{ℕ, zero, suc, ◌+◌, ◌-◌, ◌*◌, ◌/◌, ◌%◌, ◌^◌, ◌≤◌, ◌<◌, ◌≡◌, refl, List, [], ◌∷◌, ◌++◌, length}
 use Rattle.std.proofs.Common.{◌∙◌, pow-suc, div-lt_iff_lt-mul, le-div_iff_mul-le, mod-eq_of_lt, not-suc-le-zero, sub-one, arith, lt-ltb, le-ltb, lit<}
 use Rattle.std.proofs.Math.Nat.{one-le-pow, mul-add-div_right, mul-add-mod_self_right}
-use Rattle.protocol.specs.StoredLists.{Positional, length_digits}
+use Rattle.protocol.proofs.StoredLists.{Positional, length_digits}
 use Rattle.text.specs.Decimal.{digit, digits}
 
 -- x has `count` decimal digits

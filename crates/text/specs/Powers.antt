@@ -3,7 +3,7 @@ use Rattle.std.specs.Prelude.{ℕ, zero, suc, ◌+◌, ◌-◌, ◌*◌, ◌^◌
 use Rattle.std.proofs.lemmas.Bool.{false≢true}
 use Rattle.std.proofs.Common.{pow-suc, le_of_lt, not-suc-le-zero, sub-one, arith, lit<}
 use Rattle.std.proofs.Math.Nat.{pow-le-pow_right}
-use Rattle.protocol.specs.Tests.{tests}
+use Rattle.protocol.proofs.Tests.{tests}
 use Rattle.text.specs.Put.{most_digits}
 
 -- each entry is ten times the next, and the last is 1

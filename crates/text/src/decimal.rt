@@ -33,7 +33,7 @@ const POWERS: [u64; MOST_DIGITS] = [
 ];
 
 // A number's first digit, and the number that the others make.
-#[derive(Drop)]
+#[derive(Clone, Copy)]
 struct First {
     digit: u64,
     rest: u64,

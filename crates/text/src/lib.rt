@@ -3,6 +3,8 @@
 // The public functions are internal, for the crates of this repository: they test nothing, and require a number below 10^16 and room for the most bytes
 // that they may write. A caller has that room since its buffer is as long as the longest text that it makes, and each call writes at most its own part of
 // that.
+#![tactic(auto)]
+
 mod decimal;
 
 ghost use Rattle.std.specs.Prelude.{◌++◌, ◌+◌, ◌^◌, ◌≤◌, ◌<◌, length};

@@ -9,8 +9,8 @@ use Rattle.std.proofs.Math.Seq.{take-append_seam, drop-append_seam, length-take-
 use Rattle.std.proofs.lemmas.Bool.{lt-leb}
 use Rattle.protocol.specs.Limits.{MAX, most_cards, most_amount}
 use Rattle.protocol.specs.declared.ClearEntry.{ClearEntry}
-use Rattle.protocol.specs.Cases.{by_le, by_place}
-use Rattle.protocol.specs.Tests.{tests}
+use Rattle.protocol.proofs.Cases.{by_le, by_place}
+use Rattle.protocol.proofs.Tests.{tests}
 use Rattle.wire.specs.Message.{Message, version_1, version_2, counter_bound, increment_kind, clear_kind, no_entry, increment_message, clear_message, header_in_range, amount_in_range, increment_in_range, clear_in_range, body_in_range, entry_in_range, entries_in_range, unused, in_range}
 use Rattle.wire.specs.EntriesLaws.{places_in_range}
 

@@ -3,7 +3,7 @@ use Rattle.std.specs.Prelude.{◌≡◌, ℕ, ◌<◌, ◌≤◌, true, ◌≢�
 use Rattle.std.proofs.Common.{sym, ap, ◌∙◌, arith}
 use Rattle.protocol.specs.Limits.{most_cards}
 use Rattle.protocol.specs.Checks.{Decided}
-use Rattle.protocol.specs.ChecksLaws.{decided}
+use Rattle.protocol.proofs.ChecksLaws.{decided}
 use Rattle.protocol.specs.declared.ClearEntry.{ClearEntry}
 use Rattle.wire.specs.Number.{Bytes}
 use Rattle.wire.specs.Message.{Message, version_1, version_2, clear_length, message_bytes, message_length, increment_message, clear_message, in_range, called_length, message_at, reads, version_in, read_declined, read_checks, read_message, front_length, write_declined, write_checks, written, write_message}

@@ -7,10 +7,10 @@ use Rattle.std.proofs.lemmas.List.{set_at}
 use Rattle.std.proofs.Math.Seq.{take-nil, drop-nil}
 use Rattle.protocol.specs.Limits.{most_cards}
 use Rattle.protocol.specs.declared.ClearEntry.{ClearEntry}
-use Rattle.protocol.specs.Cases.{by_le}
+use Rattle.protocol.proofs.Cases.{by_le}
 use Rattle.wire.specs.Number.{unsigned_int, unsigned_hyper}
 use Rattle.wire.specs.Message.{Message, entry_length, entry_p_at, entry_c_at, no_entry, entry_bytes, entries_bytes, entry_at, entries_at, entry_in_range, entries_in_range, entry_unused, unused}
-use Rattle.protocol.specs.StoredLists.{sets_append}
+use Rattle.protocol.proofs.StoredLists.{sets_append}
 use Rattle.wire.specs.NumberLaws.{length_bytes_of}
 
 -- a message with other entries: what a loop that fills them makes of it

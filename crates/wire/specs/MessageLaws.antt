@@ -4,7 +4,7 @@ use Rattle.std.proofs.Common.{sym, ◌∙◌, arith}
 use Rattle.std.proofs.Math.Bool.{and-true, and-false}
 use borrow.Author.Tests.{eq-eqb, ne_eqb, le-leb, lt-leb}
 use Rattle.protocol.specs.Limits.{most_cards, most_amount, unreadable}
-use Rattle.protocol.specs.Cases.{by_test, by_place}
+use Rattle.protocol.proofs.Cases.{by_test, by_place}
 use Rattle.wire.specs.Number.{int_at, hyper_at}
 use Rattle.wire.specs.Message.{Message, Reading, is_version, has_amount, increment_kind, clear_kind, shortest_message, increment_length, clear_length, kind_at, sender_at, sequence_at, counter_at, p_at, start_at, amount_at, count_at, first_entry_at, from_one_to, header_in_range, increment_in_range, amount_in_range, entries_in_range, entries_at, amount_in, increment_message, clear_message, in_range, called_length, message_at, reads, read_declined, read_message, front_length}
 use Rattle.wire.specs.EntriesLaws.{length_entries_at}

@@ -4,7 +4,7 @@ use Rattle.std.proofs.Common.{sym, ◌∙◌, mod-eq_of_lt, arith, lt-ltb, le-lt
 use Rattle.std.proofs.Math.Bool.{and_assoc}
 use Rattle.std.proofs.lemmas.Bool.{lt-leb}
 use Rattle.protocol.specs.Limits.{MAX, most_cards, most_counters}
-use Rattle.protocol.specs.Cases.{by_le}
+use Rattle.protocol.proofs.Cases.{by_le}
 use Rattle.wire.specs.Message.{is_version, from_one_to, header_in_range}
 
 -- r is x - 1 in 64 bits: 0 wraps past every bound

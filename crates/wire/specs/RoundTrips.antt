@@ -8,11 +8,11 @@ use Rattle.std.proofs.Math.Seq.{take-append_seam}
 use borrow.Author.Tests.{eq-eqb, ne_eqb, le-leb, lt-leb, eqb-true}
 use Rattle.protocol.specs.Limits.{most_cards, most_amount, unreadable}
 use Rattle.protocol.specs.declared.ClearEntry.{ClearEntry}
-use Rattle.protocol.specs.Cases.{by_le, by_place, by_test}
-use Rattle.protocol.specs.Tests.{tests}
+use Rattle.protocol.proofs.Cases.{by_le, by_place, by_test}
+use Rattle.protocol.proofs.Tests.{tests}
 use Rattle.wire.specs.Number.{int_width, hyper_width, Bytes, number_at, bytes_of, int_at, hyper_at, unsigned_int, unsigned_hyper}
 use Rattle.wire.specs.Message.{Message, Reading, version_2, has_amount, increment_kind, clear_kind, header_length, increment_body_length, increment_length, entry_length, clear_length, shortest_message, kind_at, sender_at, sequence_at, counter_at, p_at, start_at, amount_at, count_at, first_entry_at, entry_p_at, entry_c_at, no_entry, header_bytes, amount_bytes, increment_bytes, entry_bytes, entries_bytes, clear_bytes, message_bytes, message_length, increment_message, clear_message, entries_in_range, in_range, entry_at, entries_at, amount_in, increment_in, clear_in, called_length, message_at, reads, version_in, read_message, front_length}
-use Rattle.protocol.specs.StoredLists.{parts_join}
+use Rattle.protocol.proofs.StoredLists.{parts_join}
 use Rattle.wire.specs.NumberLaws.{length_bytes_of, number_at_left, number_at_right, number_at_bytes_of, bytes_of_number_at, number_joined}
 use Rattle.wire.specs.EntriesLaws.{entries_at_more, length_entries_at, length_entries_bytes}
 use Rattle.wire.specs.WriteLaws.{length_header_bytes, length_clear_bytes, length_message_bytes}

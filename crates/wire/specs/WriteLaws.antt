@@ -5,12 +5,12 @@ use Rattle.std.proofs.Common.{◌∙◌, length-append}
 use mathlib.Core.List.{append-nil}
 use Rattle.std.proofs.Math.Seq.{sets, length-sets}
 use borrow.Author.Tests.{eq-eqb, ne_eqb, le-leb, lt-leb}
-use Rattle.protocol.specs.Cases.{by_test, by_place}
+use Rattle.protocol.proofs.Cases.{by_test, by_place}
 use Rattle.protocol.specs.declared.ClearEntry.{ClearEntry}
 use Rattle.protocol.specs.Limits.{short_output, unreadable}
 use Rattle.wire.specs.Number.{int_width, unsigned_int, unsigned_hyper}
 use Rattle.wire.specs.Message.{Message, WriteOutcome, has_amount, increment_kind, clear_kind, header_length, amount_length, increment_length, clear_length, p_at, start_at, amount_at, count_at, first_entry_at, over, header_bytes_of, header_bytes, amount_bytes, increment_bytes, entries_bytes, clear_bytes, message_bytes, message_length, increment_message, clear_message, in_range, write_declined, write_message}
-use Rattle.protocol.specs.StoredLists.{sets_append, sets_front}
+use Rattle.protocol.proofs.StoredLists.{sets_append, sets_front}
 use Rattle.wire.specs.NumberLaws.{length_bytes_of}
 use Rattle.wire.specs.EntriesLaws.{length_entries_bytes}
 use Rattle.wire.specs.Bounds.{kind_increment}

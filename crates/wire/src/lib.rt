@@ -1,4 +1,6 @@
 // The messages of SPECIFICATION 2, read from bytes and written into the caller's bytes.
+#![tactic(auto)]
+
 ghost use Rattle.std.specs.Prelude.{◌≡◌, ◌^◌, ◌<◌};
 ghost use Rattle.wire.specs.Message.{is_version, has_amount, increment_length, clear_length};
 
@@ -44,7 +46,7 @@ pub const NO_ENTRY: ClearEntry = ClearEntry {
 // A message held whole: an increment uses `p`, `start` and from version 2 on `amount`, a clear the first `len` entries. What its version and its
 // kind do not use is zero.
 #[repr(C)]
-#[derive(Drop)]
+#[derive(Clone, Copy)]
 pub struct Message {
     pub version: u32,
     pub kind: u32,
@@ -60,7 +62,7 @@ pub struct Message {
 
 // Number 0 with the message, or `UNREADABLE` with zeros.
 #[repr(C)]
-#[derive(Drop)]
+#[derive(Clone, Copy)]
 pub struct Reading {
     pub number: u64,
     pub message: Message,
@@ -68,7 +70,7 @@ pub struct Reading {
 
 // Number 0 with the length written, or the number of the refusal with zero.
 #[repr(C)]
-#[derive(Drop)]
+#[derive(Clone, Copy)]
 pub struct Written {
     pub number: u64,
     pub length: usize,

@@ -12,27 +12,27 @@ use crate::number::{HYPER_BYTES, INT_BYTES};
 use crate::{has_amount, number};
 use protocol::ClearEntry;
 
-#[derive(Drop)]
+#[derive(Clone, Copy)]
 pub(crate) struct Reader<'a> {
     pub src: &'a [u8],
     pub at: usize,
 }
 
 // A number, and the position behind it.
-#[derive(Drop)]
+#[derive(Clone, Copy)]
 struct NumberRead {
     pub number: u64,
     pub behind: usize,
 }
 
-#[derive(Drop)]
+#[derive(Clone, Copy)]
 pub struct IntRead {
     pub number: u32,
     pub behind: usize,
 }
 
 // The numbers that every message starts with, and the position behind them.
-#[derive(Drop)]
+#[derive(Clone, Copy)]
 pub struct Header {
     pub version: u32,
     pub kind: u32,
@@ -43,7 +43,7 @@ pub struct Header {
 }
 
 // What every increment has after its header, and the position behind it.
-#[derive(Drop)]
+#[derive(Clone, Copy)]
 pub struct Increment {
     pub p: u64,
     pub start: u32,
@@ -51,7 +51,7 @@ pub struct Increment {
 }
 
 // An entry of a clear, and the position behind it.
-#[derive(Drop)]
+#[derive(Clone, Copy)]
 pub struct EntryRead {
     pub entry: ClearEntry,
     pub behind: usize,

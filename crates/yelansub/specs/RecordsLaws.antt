@@ -6,11 +6,11 @@ use Rattle.protocol.specs.Limits.{bad_sizes}
 use Rattle.replica_model.specs.Layout.{replica_length}
 use Rattle.chassis_model.specs.declared.Step.{Step}
 use Rattle.chassis_model.specs.Run.{State, answer_length, RunOutcome, fresh_replicas, run_on}
-use Rattle.chassis_model.specs.Places.{links, fresh_reached}
+use Rattle.chassis_model.proofs.Places.{links, fresh_reached}
 use Rattle.chassis.specs.declared.Sizes.{Sizes}
 use Rattle.chassis.specs.BeginLaws.{lengths_right, sizes_by_length, right_lengths}
 use Rattle.chassis.specs.StepCodeLaws.{state_of, StepReady, StepAnswered}
-use Rattle.chassis.specs.RunningLaws.{Running, running_next, running_done}
+use Rattle.chassis.proofs.RunningLaws.{Running, running_next, running_done}
 
 abbrev pub sizes_for : ℕ → ℕ → ℕ → Sizes
 sizes_for r k L = record { cards = r; counters = k; log_bytes = L; replica_words = replica_length r k }

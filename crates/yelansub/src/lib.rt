@@ -1,4 +1,6 @@
 // The calls for a host in C or Rust: each is the proved call under its exported name, with the call's own contract. See include/yelansub.h.
+#![tactic(auto)]
+
 mod records;
 
 ghost use Rattle.std.specs.Prelude.{◌≡◌};

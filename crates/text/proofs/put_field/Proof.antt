@@ -1,5 +1,5 @@
 -- Two stretches side by side.
-use Rattle.text.specs.PutLaws.{put_then}
+use Rattle.text.proofs.PutLaws.{put_then}
 use borrow.Author.Rules.{rules}
 use Rattle.text.proofs.put_field.Statement.{statement}
 use Rattle.text.proofs.put_field.Tie as tie

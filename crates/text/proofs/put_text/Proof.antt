@@ -4,7 +4,7 @@ use mathlib.Core.Path.{◌≡◌, ◌∙◌}
 use native.Mathlib.Omega.{arith}
 use lib.ListN.{length, take}
 use lib.Seq.{sets, take-length}
-use Rattle.text.specs.PutLaws.{put_byte}
+use Rattle.text.proofs.PutLaws.{put_byte}
 use borrow.Author.Rules.{rules}
 use Rattle.text.proofs.put_text.Statement.{statement}
 use Rattle.text.proofs.put_text.Tie as tie

@@ -7,7 +7,7 @@ use lib.ListN.{length}
 use borrow.Author.Rules.{rules}
 use Rattle.replica_model.specs.Layout.{replica_length}
 use Rattle.chassis_model.specs.ListParts.{part, put_part}
-use Rattle.chassis_model.specs.ListPartsLaws.{part_room, part_length}
+use Rattle.chassis_model.proofs.ListPartsLaws.{part_room, part_length}
 use Rattle.chassis.specs.BeginLaws.{opened}
 use Rattle.chassis.proofs.begin.fresh_card.Statement.{statement}
 use Rattle.chassis.proofs.begin.fresh_card.Tie as tie

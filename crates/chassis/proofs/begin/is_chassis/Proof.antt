@@ -9,7 +9,7 @@ use Rattle.protocol.specs.Limits.{most_cards, most_counters}
 use Rattle.replica_model.specs.Layout.{replica_length}
 use Rattle.replica_model.specs.Calls.{sizes_in_range}
 use Rattle.replica_model.specs.ClaimTerms.{Sizes}
-use Rattle.replica_model.specs.RowLaws.{sizes}
+use Rattle.replica_model.proofs.RowLaws.{sizes}
 use Rattle.chassis_model.specs.Run.{chassis_fits}
 use Rattle.chassis.proofs.begin.is_chassis.Statement.{statement}
 use Rattle.chassis.proofs.begin.is_chassis.Tie as tie

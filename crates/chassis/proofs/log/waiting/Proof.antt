@@ -5,7 +5,7 @@ use native.Mathlib.Nat.{add-sub_cancel_left}
 use native.Mathlib.Omega.{arith}
 use lib.ListN.{length}
 use borrow.Author.Rules.{rules}
-use Rattle.chassis_model.specs.Spans.{span_is_part, span_inside}
+use Rattle.chassis_model.proofs.Spans.{span_is_part, span_inside}
 use Rattle.chassis.proofs.log.waiting.Statement.{statement}
 use Rattle.chassis.proofs.log.waiting.Tie as tie
 

@@ -2,7 +2,7 @@
 use mathlib.Core.Path.{◌≡◌, ◌∙◌}
 use native.Mathlib.Omega.{arith}
 use borrow.Author.Rules.{rules}
-use Rattle.chassis.specs.LogWalkLaws.{rest_is, Walk, walk_begins, walk_next, walk_none, walk_zero, walk_here}
+use Rattle.chassis.proofs.LogWalkLaws.{rest_is, Walk, walk_begins, walk_next, walk_none, walk_zero, walk_here}
 use Rattle.chassis.proofs.log.waiting_span.Statement.{statement}
 use Rattle.chassis.proofs.log.waiting_span.Tie as tie
 

@@ -7,7 +7,7 @@ use borrow.Author.Rules.{rules}
 use borrow.Author.Tests.{not-true, not-false}
 use Rattle.chassis_model.specs.Run.{step_length}
 use Rattle.chassis.specs.BeginLaws.{RightLengths, lengths_right, right_lengths}
-use Rattle.chassis.specs.OutcomeLaws.{run_uneven, run_declined, steps_given, run_done}
+use Rattle.chassis.proofs.OutcomeLaws.{run_uneven, run_declined, steps_given, run_done}
 use Rattle.chassis.proofs.run.run.Statement.{statement}
 use Rattle.chassis.proofs.run.run.Tie as tie
 

@@ -5,7 +5,7 @@ use native.Mathlib.Omega.{arith}
 use lib.ListN.{length}
 use Rattle.chassis_model.specs.Run.{step_length}
 use Rattle.chassis.specs.StepCodeLaws.{state_of, StepReady, answers_long}
-use Rattle.chassis.specs.RunningLaws.{RunningBytes, bytes_begin, bytes_next, bytes_done}
+use Rattle.chassis.proofs.RunningLaws.{RunningBytes, bytes_begin, bytes_next, bytes_done}
 use Rattle.chassis.proofs.run.run_steps.Statement.{statement}
 use Rattle.chassis.proofs.run.run_steps.Tie as tie
 

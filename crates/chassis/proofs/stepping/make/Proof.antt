@@ -11,7 +11,7 @@ use borrow.Author.Rules.{rules}
 use Rattle.replica_model.specs.Calls.{ClearedOutcome}
 use Rattle.chassis_model.specs.ListParts.{part, put_part}
 use Rattle.chassis_model.specs.declared.StepAnswer.{StepAnswer}
-use Rattle.chassis_model.specs.Places.{link_place}
+use Rattle.chassis_model.proofs.Places.{link_place}
 use Rattle.chassis.specs.StepCodeLaws.{appended, card_few, words_room, logs_room, log_long, place_small, made_did, made_place}
 use Rattle.chassis.proofs.stepping.make.Statement.{statement}
 use Rattle.chassis.proofs.stepping.make.Tie as tie

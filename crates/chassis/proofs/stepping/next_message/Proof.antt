@@ -5,7 +5,7 @@ use lib.ListN.{drop}
 use lib.Seq.{length-take-le}
 use borrow.Author.Rules.{rules}
 use Rattle.wire.specs.Message.{version_2, called_length}
-use Rattle.chassis.specs.LogWalkLaws.{rest_is}
+use Rattle.chassis.proofs.LogWalkLaws.{rest_is}
 use Rattle.chassis.proofs.stepping.next_message.Statement.{statement}
 use Rattle.chassis.proofs.stepping.next_message.Tie as tie
 

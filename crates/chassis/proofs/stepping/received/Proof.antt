@@ -5,7 +5,7 @@ use native.Mathlib.Omega.{arith}
 use lib.ListN.{length}
 use borrow.Author.Rules.{rules}
 use Rattle.chassis_model.specs.ListParts.{part}
-use Rattle.chassis_model.specs.ListPartsLaws.{part_room, part_length}
+use Rattle.chassis_model.proofs.ListPartsLaws.{part_room, part_length}
 use Rattle.chassis.proofs.stepping.received.Statement.{statement}
 use Rattle.chassis.proofs.stepping.received.Tie as tie
 

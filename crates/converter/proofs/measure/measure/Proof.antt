@@ -8,7 +8,7 @@ use native.Mathlib.Omega.{arith}
 use lib.ListN.{length, drop}
 use lib.Seq.{length-take-le}
 use Rattle.wire.specs.Message.{front_length}
-use Rattle.conversion.specs.LogLaws.{front_there}
+use Rattle.conversion.proofs.LogLaws.{front_there}
 use Rattle.converter.specs.FirstLaws.{rest_is}
 use Rattle.converter.specs.MeasureLaws.{Walked, walk_begins, walk_next, walk_stops, walk_ends}
 use Rattle.converter.proofs.measure.measure.Statement.{statement}

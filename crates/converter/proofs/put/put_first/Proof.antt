@@ -4,7 +4,7 @@ use mathlib.Core.Path.{◌≡◌, sym, ◌∙◌}
 use native.Mathlib.Omega.{arith}
 use lib.Seq.{length-take-le}
 use Rattle.wire.specs.Message.{front_length}
-use Rattle.conversion.specs.LogLaws.{front_there}
+use Rattle.conversion.proofs.LogLaws.{front_there}
 use Rattle.converter.specs.FirstLaws.{first_long, first_called}
 use Rattle.converter.specs.PutLaws.{first_reads}
 use Rattle.converter.proofs.put.put_first.Statement.{statement}

@@ -1,7 +1,7 @@
 -- Past the test of r and k the length that they ask for fits.
 use Rattle.std.proofs.Common.{sym, ◌∙◌, rules}
 use Rattle.replica_model.specs.Calls.{replica_fits}
-use Rattle.replica_model.specs.RowLaws.{sizes}
+use Rattle.replica_model.proofs.RowLaws.{sizes}
 use Rattle.layout.proofs.words.fits.Statement.{statement}
 use Rattle.layout.proofs.words.fits.Tie as tie
 

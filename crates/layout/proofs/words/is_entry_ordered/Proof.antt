@@ -2,11 +2,11 @@
 use Rattle.std.proofs.Common.{◌≡◌, ℕ, ◌+◌, ◌%◌, ◌^◌, ◌≤◌, true, false, sym, arith, rules}
 use mathlib.Core.Bool.{false≢true}
 use Rattle.protocol.specs.Limits.{MAX}
-use Rattle.protocol.specs.Cases.{by_le, not_yes}
+use Rattle.protocol.proofs.Cases.{by_le, not_yes}
 use Rattle.protocol.specs.declared.Entry.{Entry}
 use Rattle.protocol.specs.Rows.{WellFormed}
 use Rattle.protocol.specs.Acceptance.{entry_well_formed}
-use Rattle.protocol.specs.AcceptanceLaws.{entry_facts}
+use Rattle.protocol.proofs.AcceptanceLaws.{entry_facts}
 use Rattle.layout.specs.RowCheck.{Ordered}
 use Rattle.layout.proofs.words.is_entry_ordered.Statement.{statement}
 use Rattle.layout.proofs.words.is_entry_ordered.Tie as tie

@@ -1,6 +1,6 @@
 -- At most one bit is left behind the first k - 1.
 use Rattle.std.proofs.Common.{rules}
-use Rattle.protocol.specs.BitLaws.{below_power}
+use Rattle.protocol.proofs.BitLaws.{below_power}
 use Rattle.layout.proofs.words.is_low.Statement.{statement}
 use Rattle.layout.proofs.words.is_low.Tie as tie
 

@@ -1,6 +1,6 @@
 -- The bit is set by `|`.
 use Rattle.std.proofs.Common.{ℕ, set, ap, rules}
-use Rattle.protocol.specs.BitLaws.{or_bit}
+use Rattle.protocol.proofs.BitLaws.{or_bit}
 use Rattle.replica_model.specs.Layout.{at_active, active_word}
 use Rattle.layout.proofs.words.set_active.Statement.{statement}
 use Rattle.layout.proofs.words.set_active.Tie as tie

@@ -1,6 +1,6 @@
 -- The bit is set by `|` and taken away by `-`.
 use Rattle.std.proofs.Common.{ℕ, set, ap, rules}
-use Rattle.protocol.specs.BitLaws.{or_bit, one_shifted, some_bit, sub_bit}
+use Rattle.protocol.proofs.BitLaws.{or_bit, one_shifted, some_bit, sub_bit}
 use Rattle.replica_model.specs.Layout.{at_active, active_word}
 use Rattle.layout.proofs.words.set_quiet.Statement.{statement}
 use Rattle.layout.proofs.words.set_quiet.Tie as tie

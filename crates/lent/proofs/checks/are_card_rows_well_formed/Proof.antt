@@ -6,9 +6,9 @@ use native.Mathlib.Omega.{arith}
 use lib.ListN.{length}
 use borrow.Author.Rules.{rules}
 use Rattle.replica_model.specs.ClaimTerms.{Right}
-use Rattle.chassis_model.specs.InStep.{Heads}
+use Rattle.chassis_model.proofs.InStep.{Heads}
 use Rattle.chassis_model.specs.ListParts.{part}
-use Rattle.chassis_model.specs.ListPartsLaws.{part_room, part_length}
+use Rattle.chassis_model.proofs.ListPartsLaws.{part_room, part_length}
 use Rattle.lent.proofs.checks.are_card_rows_well_formed.Statement.{statement}
 use Rattle.lent.proofs.checks.are_card_rows_well_formed.Tie as tie
 

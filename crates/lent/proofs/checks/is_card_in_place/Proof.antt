@@ -5,7 +5,7 @@ use native.Mathlib.Omega.{arith}
 use lib.ListN.{length, length-take, length-drop}
 use borrow.Author.Rules.{rules}
 use Rattle.chassis_model.specs.ListParts.{part}
-use Rattle.chassis_model.specs.ListPartsLaws.{part_room}
+use Rattle.chassis_model.proofs.ListPartsLaws.{part_room}
 use Rattle.lent.proofs.checks.is_card_in_place.Statement.{statement}
 use Rattle.lent.proofs.checks.is_card_in_place.Tie as tie
 

@@ -8,7 +8,7 @@ use lib.ListN.{length}
 use borrow.Author.Rules.{rules}
 use borrow.Author.Tests.{not-true, not-false}
 use Rattle.chassis_model.specs.ListParts.{part}
-use Rattle.chassis_model.specs.ListPartsLaws.{part_room}
+use Rattle.chassis_model.proofs.ListPartsLaws.{part_room}
 use Rattle.lent.specs.Lent.{received_in, Walked, NextStop, Found}
 use Rattle.lent.specs.PlacesLaws.{Finding, none_ahead, finding_begins, finding_next, found_right, found_missing, found_ahead, found_since}
 use Rattle.lent.proofs.places.find_places.Statement.{statement}

@@ -5,7 +5,7 @@ use mathlib.Core.List.{[]}
 use native.Mathlib.Omega.{arith}
 use lib.ListN.{length}
 use borrow.Author.Rules.{rules}
-use Rattle.chassis_model.specs.Places.{link_place}
+use Rattle.chassis_model.proofs.Places.{link_place}
 use Rattle.lent.specs.Lent.{Marked}
 use Rattle.lent.specs.PlacesLaws.{mark_none, mark_next}
 use Rattle.lent.proofs.places.mark.Statement.{statement}

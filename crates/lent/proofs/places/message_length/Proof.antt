@@ -12,7 +12,7 @@ use borrow.Author.Rules.{rules}
 use Rattle.wire.specs.Message.{version_2, front_length}
 use Rattle.wire.specs.MessagePartsLaws.{HeaderRead, header_read}
 use Rattle.chassis_model.specs.Pending.{is_numbered}
-use Rattle.chassis.specs.LogWalkLaws.{rest_is}
+use Rattle.chassis.proofs.LogWalkLaws.{rest_is}
 use Rattle.lent.specs.PlacesLaws.{front_long, numbered_none, numbered_some}
 use Rattle.lent.proofs.places.message_length.Statement.{statement}
 use Rattle.lent.proofs.places.message_length.Tie as tie

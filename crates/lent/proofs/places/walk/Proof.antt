@@ -6,9 +6,9 @@ use native.Mathlib.Numerals.{add-one}
 use native.Mathlib.Omega.{arith}
 use lib.ListN.{drop}
 use borrow.Author.Rules.{rules}
-use Rattle.protocol.specs.Cases.{by_place}
+use Rattle.protocol.proofs.Cases.{by_place}
 use Rattle.chassis_model.specs.Log.{waiting_part, end_of}
-use Rattle.chassis_model.specs.Ends.{ends_within}
+use Rattle.chassis_model.proofs.Ends.{ends_within}
 use Rattle.chassis_model.specs.Pending.{is_numbered}
 use Rattle.lent.specs.Lent.{numbered_length}
 use Rattle.lent.specs.PlacesLaws.{stands_next, stands_not}

@@ -4,7 +4,7 @@ use mathlib.Core.Path.{◌≡◌, refl}
 use native.Mathlib.Omega.{arith}
 use lib.ListN.{length}
 use Rattle.text.specs.Put.{Put}
-use Rattle.text.specs.PutLaws.{put_none, put_turn}
+use Rattle.text.proofs.PutLaws.{put_none, put_turn}
 use Rattle.listing.specs.Listing.{card_lines}
 use Rattle.listing.specs.Sizes.{line_bytes}
 use borrow.Author.Rules.{rules}

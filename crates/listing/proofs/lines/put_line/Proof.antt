@@ -1,6 +1,6 @@
 -- Five fields side by side.
-use Rattle.text.specs.PutLaws.{put_then}
-use Rattle.listing.specs.ListingLaws.{line_fields}
+use Rattle.text.proofs.PutLaws.{put_then}
+use Rattle.listing.proofs.ListingLaws.{line_fields}
 use borrow.Author.Rules.{rules}
 use Rattle.listing.proofs.lines.put_line.Statement.{statement}
 use Rattle.listing.proofs.lines.put_line.Tie as tie

@@ -5,7 +5,7 @@ use native.Mathlib.Omega.{arith}
 use native.Mathlib.Nat.{mul-le-mul_right, suc-mul}
 use lib.ListN.{length}
 use Rattle.text.specs.Put.{Put}
-use Rattle.text.specs.PutLaws.{put_none, put_turn}
+use Rattle.text.proofs.PutLaws.{put_none, put_turn}
 use Rattle.listing.specs.Listing.{lines}
 use Rattle.listing.specs.Sizes.{card_bytes}
 use borrow.Author.Rules.{rules}

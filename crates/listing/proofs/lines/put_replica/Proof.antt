@@ -1,7 +1,7 @@
 -- The lines of one card, read from its part of the words.
 use Prim.Native.Nat.{◌*◌, ◌≤◌}
 use native.Mathlib.Omega.{arith}
-use Rattle.text.specs.PutLaws.{put_within}
+use Rattle.text.proofs.PutLaws.{put_within}
 use Rattle.listing.specs.Sizes.{line_bytes, card_bytes}
 use borrow.Author.Rules.{rules}
 use Rattle.listing.proofs.lines.put_replica.Statement.{statement}

@@ -5,10 +5,10 @@ use mathlib.Core.Bool.{true}
 use native.Mathlib.Omega.{arith}
 use borrow.Author.Tests.{not-true, not-false}
 use lib.ListN.{length}
-use Rattle.text.specs.PutLaws.{put_front}
+use Rattle.text.proofs.PutLaws.{put_front}
 use Rattle.listing.specs.Listing.{refused_11, sizes_length, input_right}
 use Rattle.listing.specs.Sizes.{listing_bytes}
-use Rattle.listing.specs.ListingLaws.{RightInput, right_input, rest_of, listing_refused, listing_right}
+use Rattle.listing.proofs.ListingLaws.{RightInput, right_input, rest_of, listing_refused, listing_right}
 use borrow.Author.Rules.{rules}
 use Rattle.listing.proofs.list.list.Statement.{statement}
 use Rattle.listing.proofs.list.list.Tie as tie

@@ -2,7 +2,7 @@
 use Prim.Native.Nat.{◌*◌, ◌≤◌}
 use native.Mathlib.Omega.{arith}
 use Rattle.listing.specs.Sizes.{most_words}
-use Rattle.listing.specs.ListingLaws.{words_fit, take_replicate, length_front_zeros}
+use Rattle.listing.proofs.ListingLaws.{words_fit, take_replicate, length_front_zeros}
 use borrow.Author.Rules.{rules}
 use Rattle.listing.proofs.list.put_listing.Statement.{statement}
 use Rattle.listing.proofs.list.put_listing.Tie as tie

@@ -4,7 +4,7 @@ use mathlib.Core.Path.{◌≡◌, ap, ◌∙◌}
 use native.Mathlib.Omega.{arith}
 use lib.ListN.{length, length-replicate}
 use Rattle.replica_model.specs.Layout.{replica_length}
-use Rattle.text.specs.PutLaws.{put_then, put_within}
+use Rattle.text.proofs.PutLaws.{put_then, put_within}
 use Rattle.listing.specs.Listing.{header}
 use Rattle.listing.specs.Sizes.{card_bytes, listing_bytes}
 use borrow.Author.Rules.{rules}

@@ -4,7 +4,7 @@ use native.Mathlib.Omega.{arith}
 use lib.ListN.{length}
 use Rattle.chassis_model.specs.Run.{answer_length, step_length}
 use Rattle.listing.specs.Listing.{most_listed_cards, most_listed_steps, log_bytes}
-use Rattle.listing.specs.ListingLaws.{take_replicate, length_front_zeros, run_words_are}
+use Rattle.listing.proofs.ListingLaws.{take_replicate, length_front_zeros, run_words_are}
 use borrow.Author.Rules.{rules}
 use Rattle.listing.proofs.list.run_steps.Statement.{statement}
 use Rattle.listing.proofs.list.run_steps.Tie as tie

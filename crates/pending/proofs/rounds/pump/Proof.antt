@@ -3,7 +3,7 @@
 use Prim.Native.Nat.{◌+◌, ◌-◌, ◌<◌}
 use mathlib.Core.Path.{refl, sym, ◌∙◌}
 use native.Mathlib.Omega.{arith}
-use Rattle.replica_model.specs.RowLaws.{tests}
+use Rattle.replica_model.proofs.RowLaws.{tests}
 use Rattle.pending.specs.RoundsLaws.{one_at_end, Pumping, pumping_begins, pumping_round, pumping_next, pumping_less, pumping_done}
 use Rattle.pending.proofs.rounds.pump.Statement.{statement}
 use Rattle.pending.proofs.rounds.pump.Tie as tie

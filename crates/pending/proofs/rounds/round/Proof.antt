@@ -2,8 +2,8 @@
 use Prim.Native.Nat.{◌-◌, ◌≤◌, ◌<◌}
 use mathlib.Core.Path.{sym, ◌∙◌}
 use native.Mathlib.Omega.{arith}
-use Rattle.replica_model.specs.RowLaws.{tests}
-use Rattle.chassis_model.specs.Places.{links}
+use Rattle.replica_model.proofs.RowLaws.{tests}
+use Rattle.chassis_model.proofs.Places.{links}
 use Rattle.pending.specs.RoundsLaws.{turn_small, one_at_end, Rounding, rounding_begins, rounding_turn, rounding_next, rounding_done}
 use Rattle.pending.proofs.rounds.round.Statement.{statement}
 use Rattle.pending.proofs.rounds.round.Tie as tie

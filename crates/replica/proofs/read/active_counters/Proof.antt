@@ -2,7 +2,7 @@
 use Rattle.std.proofs.Common.{sym, ◌∙◌, rules}
 use borrow.Author.Tests.{not-true, not-false}
 use Rattle.replica_model.specs.Calls.{active_on}
-use Rattle.replica_model.specs.RowLaws.{right_facts}
+use Rattle.replica_model.proofs.RowLaws.{right_facts}
 use Rattle.layout.specs.WordsLaws.{head_inside}
 use Rattle.replica.proofs.read.active_counters.Statement.{statement}
 use Rattle.replica.proofs.read.active_counters.Tie as tie

@@ -3,7 +3,7 @@ use Rattle.std.proofs.Common.{◌≡◌, ◌<◌, true, sym, ◌∙◌, rules, l
 use borrow.Author.Tests.{not-true, not-false}
 use Rattle.replica_model.specs.Layout.{counters}
 use Rattle.replica_model.specs.Calls.{right, read_on}
-use Rattle.replica_model.specs.RowLaws.{right_facts}
+use Rattle.replica_model.proofs.RowLaws.{right_facts}
 use Rattle.layout.specs.WordsLaws.{head_inside}
 use Rattle.replica.proofs.read.read.Statement.{statement}
 use Rattle.replica.proofs.read.read.Tie as tie

@@ -4,12 +4,12 @@ use Rattle.std.proofs.Common.{◌≡◌, ℕ, ◌-◌, ◌%◌, ◌^◌, Bool, L
 use lib.Count.{ones-le}
 use borrow.Author.Tests.{not-true, not-false}
 use Rattle.protocol.specs.Entry.{present}
-use Rattle.protocol.specs.Tables.{sum, bits}
+use Rattle.protocol.proofs.Tables.{sum, bits}
 use Rattle.protocol.specs.Chassis.{read_value, read_holders}
-use Rattle.protocol.specs.StoreLaws.{shown}
+use Rattle.protocol.proofs.StoreLaws.{shown}
 use Rattle.replica_model.specs.Layout.{entry_of}
 use Rattle.replica_model.specs.Calls.{reading}
-use Rattle.replica_model.specs.RowLaws.{row_facts}
+use Rattle.replica_model.proofs.RowLaws.{row_facts}
 use Rattle.layout.specs.WordsLaws.{few_cards}
 use Rattle.layout.specs.RowCheck.{Ordered, Checked, check_begins, check_turn, check_fails}
 use Rattle.layout.specs.Totals.{held}

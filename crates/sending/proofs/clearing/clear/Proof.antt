@@ -1,7 +1,7 @@
 -- The answer without its value (`answer_refused`, `answer_sent`), which is what `read_and_clear_on` puts beside `clear_on`.
 use borrow.Author.Rules.{rules}
 use Rattle.replica_model.specs.Calls.{read_and_clear_on}
-use Rattle.replica_model.specs.CallsLaws.{clear_decided}
+use Rattle.replica_model.proofs.CallsLaws.{clear_decided}
 use Rattle.sending.specs.SendLaws.{answer_refused, answer_sent}
 use Rattle.sending.proofs.clearing.clear.Statement.{statement}
 use Rattle.sending.proofs.clearing.clear.Tie as tie

@@ -8,7 +8,7 @@ use borrow.Author.Tests.{le-leb}
 use Rattle.protocol.specs.Chassis.{present_entries}
 use Rattle.wire.specs.Message.{clear_length}
 use Rattle.replica_model.specs.Layout.{entry_of}
-use Rattle.replica_model.specs.PresentLaws.{present_few}
+use Rattle.replica_model.proofs.PresentLaws.{present_few}
 use Rattle.layout.specs.WordsLaws.{few_cards}
 use Rattle.sending.proofs.clearing.has_room.Statement.{statement}
 use Rattle.sending.proofs.clearing.has_room.Tie as tie

@@ -6,7 +6,7 @@ use native.Mathlib.Omega.{arith}
 use lib.ListN.{length}
 use Rattle.protocol.specs.Chassis.{present_entries}
 use Rattle.replica_model.specs.Layout.{entry_of}
-use Rattle.replica_model.specs.PresentLaws.{present_counted, present_few}
+use Rattle.replica_model.proofs.PresentLaws.{present_counted, present_few}
 use Rattle.layout.specs.WordsLaws.{few_cards}
 use Rattle.sending.proofs.clearing.holders_of.Statement.{statement}
 use Rattle.sending.proofs.clearing.holders_of.Tie as tie

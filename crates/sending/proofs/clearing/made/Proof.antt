@@ -9,7 +9,7 @@ use Rattle.protocol.specs.Checks.{first_failing}
 use Rattle.protocol.specs.Chassis.{Message}
 use Rattle.replica_model.specs.Format.{size_of}
 use Rattle.replica_model.specs.Calls.{making_checks, clear_of, with_value_read}
-use Rattle.replica_model.specs.Senders.{Sending}
+use Rattle.replica_model.proofs.Senders.{Sending}
 use Rattle.layout.specs.WordsLaws.{head_inside}
 use Rattle.sending.specs.SendLaws.{sends, row_inside, clear_made, too_short, read_and_clear_refused, read_and_clear_passed}
 use Rattle.sending.proofs.clearing.made.Statement.{statement}

@@ -11,7 +11,7 @@ use Rattle.protocol.specs.Limits.{MAX, most_cards}
 use Rattle.protocol.specs.Rows.{WellFormed}
 use Rattle.wire.specs.Message.{version_2, clear_kind, clear_length, header_bytes_of}
 use Rattle.replica_model.specs.Layout.{cards, N_of, set_active}
-use Rattle.replica_model.specs.Senders.{Sending}
+use Rattle.replica_model.proofs.Senders.{Sending}
 use Rattle.layout.specs.WordsLaws.{few_cards, few_counters, head_inside, row_N}
 use Rattle.sending.specs.SendLaws.{row_inside, own_below, own_numbers, header_written, clear_made}
 use Rattle.sending.specs.ClearLaws.{Stays, Making, making_begins, sent_well_formed, making_stays, making_few, making_small, making_length, making_next, making_room, making_turn, clear_sent}

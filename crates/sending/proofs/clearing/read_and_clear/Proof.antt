@@ -3,7 +3,7 @@ use borrow.Author.Rules.{rules}
 use mathlib.Core.Path.{ap}
 use borrow.Author.Tests.{ne_eqb}
 use Rattle.replica_model.specs.Calls.{with_value_read, read_and_clear_on}
-use Rattle.replica_model.specs.CallsLaws.{clear_decided}
+use Rattle.replica_model.proofs.CallsLaws.{clear_decided}
 use Rattle.sending.specs.SendLaws.{answer_refused}
 use Rattle.sending.proofs.clearing.read_and_clear.Statement.{statement}
 use Rattle.sending.proofs.clearing.read_and_clear.Tie as tie

@@ -9,7 +9,7 @@ use borrow.Author.Tests.{not-true, not-false, lt-ltb, le-ltb}
 use Rattle.protocol.specs.Limits.{MAX}
 use Rattle.replica_model.specs.Layout.{cards, counters, own_card, C_of, N_of}
 use Rattle.replica_model.specs.Calls.{right, row_well_formed}
-use Rattle.replica_model.specs.RowLaws.{right_facts, row_facts}
+use Rattle.replica_model.proofs.RowLaws.{right_facts, row_facts}
 use Rattle.layout.specs.WordsLaws.{RowInside, head_inside, row_C, row_N}
 use Rattle.sending.proofs.clearing.refusal.Statement.{statement}
 use Rattle.sending.proofs.clearing.refusal.Tie as tie

@@ -1,6 +1,6 @@
 -- The answer without its value (`answer_refused`, `answer_sent`).
 use borrow.Author.Rules.{rules}
-use Rattle.replica_model.specs.CallsLaws.{count_decided}
+use Rattle.replica_model.proofs.CallsLaws.{count_decided}
 use Rattle.sending.specs.SendLaws.{answer_refused, answer_sent}
 use Rattle.sending.proofs.counting.count.Statement.{statement}
 use Rattle.sending.proofs.counting.count.Tie as tie

@@ -2,7 +2,7 @@
 use borrow.Author.Rules.{rules}
 use mathlib.Core.Path.{ap}
 use Rattle.replica_model.specs.Calls.{with_value}
-use Rattle.replica_model.specs.CallsLaws.{count_decided}
+use Rattle.replica_model.proofs.CallsLaws.{count_decided}
 use Rattle.sending.specs.SendLaws.{answer_refused, answer_sent}
 use Rattle.sending.proofs.counting.count_beside.Statement.{statement}
 use Rattle.sending.proofs.counting.count_beside.Tie as tie

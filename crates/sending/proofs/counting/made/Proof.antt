@@ -4,8 +4,8 @@ use mathlib.Core.Path.{◌≡◌, sym, ap, ◌∙◌}
 use mathlib.Core.Bool.{true}
 use Rattle.protocol.specs.Checks.{first_failing}
 use Rattle.replica_model.specs.Calls.{is_amount, making_checks, with_value, count_of, count_on}
-use Rattle.replica_model.specs.CallsLaws.{count_size}
-use Rattle.replica_model.specs.Senders.{Sending}
+use Rattle.replica_model.proofs.CallsLaws.{count_size}
+use Rattle.replica_model.proofs.Senders.{Sending}
 use Rattle.layout.specs.WordsLaws.{head_inside}
 use Rattle.sending.specs.SendLaws.{sends, send_refused, send_passed, too_short, has_room}
 use Rattle.sending.proofs.counting.made.Statement.{statement}

@@ -8,7 +8,7 @@ use borrow.Author.Tests.{not-true, not-false, lt-ltb, le-ltb}
 use Rattle.protocol.specs.Limits.{MAX}
 use Rattle.replica_model.specs.Layout.{cards, counters, own_card, C_of, N_of}
 use Rattle.replica_model.specs.Calls.{right, is_amount, row_well_formed}
-use Rattle.replica_model.specs.RowLaws.{right_facts, row_facts}
+use Rattle.replica_model.proofs.RowLaws.{right_facts, row_facts}
 use Rattle.layout.specs.WordsLaws.{RowInside, head_inside, row_C, row_N}
 use Rattle.sending.specs.SendLaws.{amount_range}
 use Rattle.sending.proofs.counting.refusal.Statement.{statement}

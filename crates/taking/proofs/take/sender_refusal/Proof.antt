@@ -5,7 +5,7 @@ use mathlib.Core.Bool.{true, not, ◌&&◌}
 use native.Mathlib.Omega.{arith}
 use lib.Dec.{ltb, eqb}
 use borrow.Author.Tests.{not-true, not-false, le-ltb, lt-ltb, le-leb, lt-leb, ltb-true}
-use Rattle.protocol.specs.Cases.{and_left}
+use Rattle.protocol.proofs.Cases.{and_left}
 use Rattle.protocol.specs.Acceptance.{cards_known}
 use Rattle.replica_model.specs.Layout.{cards, own_card, N_of}
 use Rattle.layout.specs.WordsLaws.{N_inside}

@@ -6,7 +6,7 @@ use Rattle.wire.specs.Message.{version_2}
 use Rattle.wire.specs.MessageLaws.{reads_short}
 use Rattle.replica_model.specs.Calls.{take_with}
 use Rattle.replica_model.specs.ClaimTerms.{Right}
-use Rattle.replica_model.specs.RowLaws.{right_facts}
+use Rattle.replica_model.proofs.RowLaws.{right_facts}
 use Rattle.taking.specs.ReadParts.{other_version, other_kind}
 use Rattle.taking.specs.Taking.{unread}
 use Rattle.taking.proofs.take.take.Statement.{statement}

@@ -1,6 +1,6 @@
 -- As many digits as there are, the first one first.
 use native.Mathlib.Omega.{arith}
-use Rattle.text.specs.PutLaws.{put_digits_of}
+use Rattle.text.proofs.PutLaws.{put_digits_of}
 use borrow.Author.Rules.{rules}
 use Rattle.text.proofs.decimal.put_by.Statement.{statement}
 use Rattle.text.proofs.decimal.put_by.Tie as tie

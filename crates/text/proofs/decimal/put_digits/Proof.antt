@@ -7,7 +7,7 @@ use lib.Seq.{sets}
 use Rattle.text.specs.Put.{most_digits}
 use Rattle.text.specs.DecimalLaws.{fixed}
 use Rattle.text.specs.Powers.{power_next, power_small}
-use Rattle.text.specs.PutLaws.{put_digit}
+use Rattle.text.proofs.PutLaws.{put_digit}
 use borrow.Author.Rules.{rules}
 use Rattle.text.proofs.decimal.put_digits.Statement.{statement}
 use Rattle.text.proofs.decimal.put_digits.Tie as tie

@@ -1,6 +1,6 @@
 -- Five stores side by side are one.
 use Rattle.std.proofs.Common.{length-append, rules}
-use Rattle.protocol.specs.StoredLists.{sets_append}
+use Rattle.protocol.proofs.StoredLists.{sets_append}
 use Rattle.wire.specs.NumberLaws.{length_bytes_of}
 use Rattle.wire.proofs.encode.put_header.Statement.{statement}
 use Rattle.wire.proofs.encode.put_header.Tie as tie

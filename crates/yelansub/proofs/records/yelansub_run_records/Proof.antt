@@ -58,9 +58,9 @@ use Rattle.hand_proofs.proofs.Called.{calls_fn, calls_fn_last}
 use Rattle.hand_proofs.proofs.Again.{LentAgain, lends_again, comes_back}
 use Rattle.chassis_model.specs.declared.Step.{Step}
 use Rattle.chassis_model.specs.Run.{answer_length}
-use Rattle.chassis_model.specs.Places.{links}
+use Rattle.chassis_model.proofs.Places.{links}
 use Rattle.chassis.specs.StepCodeLaws.{state_of, StepReady, StepAnswered}
-use Rattle.chassis.specs.RunningLaws.{Running, running_begins}
+use Rattle.chassis.proofs.RunningLaws.{Running, running_begins}
 use Rattle.yelansub.specs.RecordsLaws.{Began, sizes_for, Gives, declined, finished, begun_answers, begun_given, record_next}
 use Rattle.chassis_model.specs.contracts.Step as T
 use Rattle.chassis_model.proofs.Step.TheLaws as T'

@@ -1,0 +1,4 @@
+pub mod LogWalkLaws
+pub mod OutcomeLaws
+pub mod PartExamples
+pub mod RunningLaws
