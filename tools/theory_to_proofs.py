@@ -13,6 +13,8 @@ import re
 import shutil
 
 CRATES = ["protocol", "conversion", "replica_model", "chassis_model", "version_1", "chassis", "text", "listing"]
+# (the toolchain makes a module of the first name in proofs/)
+NAMES = {"Reads": "ReadsOfReplicas"}
 STAY = {"chassis": ["BeginLaws", "StepCodeLaws"], "text": ["DecimalLaws", "Powers"], "listing": ["Sizes"]}
 
 
@@ -34,7 +36,7 @@ for crate in CRATES:
     moved[crate] = [name for name in names if name not in STAY.get(crate, []) and name != "Lib"]
     os.makedirs(proofs, exist_ok=True)
     for name in moved[crate]:
-        shutil.move(f"{specs}/{name}.antt", f"{proofs}/{name}.antt")
+        shutil.move(f"{specs}/{name}.antt", f"{proofs}/{NAMES.get(name, name)}.antt")
         print(f"{crate}: {name}")
     # the root files: a remark goes with the modules behind it
     here, there, said = [], [], []
@@ -43,7 +45,8 @@ for crate in CRATES:
         if not named:
             said.append(line)
             continue
-        (there if named[1] in moved[crate] else here).extend([*said, line])
+        there_now = named[1] in moved[crate]
+        (there if there_now else here).extend([*said, f"pub mod {NAMES.get(named[1], named[1])}" if there_now else line])
         said = []
     write(f"{specs}/Lib.antt", "\n".join([*here, *said]) + "\n")
     had = read(f"{proofs}/Lib.antt") if os.path.isfile(f"{proofs}/Lib.antt") else ""
@@ -59,6 +62,6 @@ for folder, inside, names in os.walk("crates"):
                 crate = folder.split("/")[1]
                 new = re.sub(r"(?m)^file: specs/(\w+)\.antt$", lambda it: it[0].replace("specs/", "proofs/") if it[1] in moved.get(crate, []) else it[0], text)
             else:
-                new = re.sub(r"Rattle\.(\w+)\.specs\.(\w+)", lambda it: f"Rattle.{it[1]}.proofs.{it[2]}" if it[2] in moved.get(it[1], []) else it[0], text)
+                new = re.sub(r"Rattle\.(\w+)\.specs\.(\w+)", lambda it: f"Rattle.{it[1]}.proofs.{NAMES.get(it[2], it[2])}" if it[2] in moved.get(it[1], []) else it[0], text)
             if new != text:
                 write(f"{folder}/{name}", new)

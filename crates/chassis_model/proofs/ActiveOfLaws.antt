@@ -10,7 +10,7 @@ use Rattle.replica_model.specs.Calls.{is_quiet, read_on}
 use Rattle.replica_model.proofs.CallsLaws.{read_accepted}
 use Rattle.replica_model.proofs.ActiveLaws.{Sound, bit_read, sound_read, sound_answers}
 use Rattle.chassis_model.proofs.InStep.{CardsAt, cards_at, reached_right, reached_row}
-use Rattle.chassis_model.proofs.Reads.{holding_there}
+use Rattle.chassis_model.proofs.ReadsOfReplicas.{holding_there}
 use Rattle.chassis_model.proofs.Offers.{ledgers_told, TheoryRun}
 use Rattle.chassis_model.specs.ActiveOf.{ledger_active, ActiveAre}
 

@@ -36,7 +36,7 @@ use Rattle.chassis_model.proofs.Matches.{RunAt, run_at, run_cards, log_in, N_in,
 use Rattle.chassis_model.proofs.Makings.{making, making_belongs}
 use Rattle.chassis_model.proofs.StepLaws.{accepted_enabled, accepted_leaves, declined_leaves}
 use Rattle.chassis_model.proofs.AnswerLaws.{due_distinct, action_due, accepted_value}
-use Rattle.chassis_model.proofs.Reads.{read_matches}
+use Rattle.chassis_model.proofs.ReadsOfReplicas.{read_matches}
 use Rattle.chassis_model.proofs.TheoryReads.{same_reading}
 use Rattle.chassis_model.proofs.FreshRun.{fresh_matches}
 use Rattle.chassis_model.proofs.Theorem.{right_sizes, answers_are, words_are}

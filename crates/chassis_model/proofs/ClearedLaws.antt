@@ -24,7 +24,7 @@ use Rattle.chassis_model.specs.Driver.{Call, make, count, Cards, opened, called,
 use Rattle.chassis_model.specs.Cleared.{ClearedBySeer, ClearStepBySeer}
 use Rattle.chassis_model.proofs.Offers.{offer, offers_of, TheoryRun, told}
 use Rattle.chassis_model.proofs.InStep.{cards_at}
-use Rattle.chassis_model.proofs.Reads.{read_matches}
+use Rattle.chassis_model.proofs.ReadsOfReplicas.{read_matches}
 use Rattle.chassis_model.proofs.Theorem as run
 use Rattle.chassis_model.proofs.Theorem.{run_offers, right_sizes, state_run, answers_are}
 use Rattle.chassis_model.proofs.DriverMatches.{driver_at}

@@ -25,7 +25,7 @@ pub mod Numbered
 pub mod InStep
 pub mod Moves
 pub mod AcceptedMessages
-pub mod Reads
+pub mod ReadsOfReplicas
 pub mod Makings
 pub mod Sends
 pub mod Takes

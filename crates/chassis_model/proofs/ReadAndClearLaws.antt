@@ -26,7 +26,7 @@ use Rattle.chassis_model.specs.Answers.{value_asked}
 use Rattle.chassis_model.specs.Driver.{Call, make, take, opened, number_of, value_of, Genuine, numbers, values, cards_after, GenuineHistory, call_step, history_ledger}
 use Rattle.chassis_model.specs.ReadAndClearOf.{call_action, reads_before, ClearsByReading, OnlyReadAndClears, is_read_and_clear, collected}
 use Rattle.chassis_model.proofs.InStep.{CardsAt}
-use Rattle.chassis_model.proofs.Reads.{read_matches}
+use Rattle.chassis_model.proofs.ReadsOfReplicas.{read_matches}
 use Rattle.chassis_model.proofs.Offers.{offer, offers_of, ledgers_told, TheoryRun, told}
 use Rattle.chassis_model.proofs.TheoryReads as reads
 use Rattle.chassis_model.proofs.Matches.{RunAt, run_at, run_cards}

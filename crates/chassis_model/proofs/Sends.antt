@@ -25,7 +25,7 @@ use Rattle.chassis_model.proofs.Numbered.{Sendable, on_wire_version}
 use Rattle.chassis_model.proofs.InStep.{CardsShow, CardsAt, reached_right, reached_row, reached_N, reached_C}
 use Rattle.chassis_model.proofs.Moves.{issued_cards_show}
 use Rattle.chassis_model.proofs.Makings.{message_of, own_message, own_size, own_value, making, message_sendable, message_units, message_writable, message_shown}
-use Rattle.chassis_model.proofs.Reads.{holders_counted, value_reads}
+use Rattle.chassis_model.proofs.ReadsOfReplicas.{holders_counted, value_reads}
 
 -- what is known of a message x that card i, with the words b, may send next
 pub record Outgoing (r k i : ℕ) (b : List ℕ) (x : Message) : Type 0 where

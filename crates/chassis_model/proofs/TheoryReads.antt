@@ -23,7 +23,7 @@ use Rattle.chassis_model.specs.Ledger.{accepted_of, ledger_reading}
 use Rattle.chassis_model.specs.Algorithm1Of.{algorithm_1_of}
 use Rattle.chassis_model.specs.HistoryOf.{history_of}
 use Rattle.chassis_model.proofs.InStep.{cards_at}
-use Rattle.chassis_model.proofs.Reads.{read_matches}
+use Rattle.chassis_model.proofs.ReadsOfReplicas.{read_matches}
 use Rattle.chassis_model.proofs.Offers.{offers_of, ledgers_told, TheoryRun, told}
 
 module _ {r k : ℕ} {steps : List Step} {numbers : List ℕ} {replicas : ℕ → List ℕ} (t : TheoryRun r k steps numbers replicas) where
