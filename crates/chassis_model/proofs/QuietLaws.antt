@@ -1,7 +1,8 @@
 -- LAWS. A quiet counter on words of a run of the theory (`TheoryRun`): a read there is the ledger's, and `protocol`'s `QuietLaws` says when the ledger has no holding cards.
 use Rattle.std.specs.Prelude.{ℕ, ◌<◌, ◌≡◌, ◌↔◌, ◌⊎◌, true, List}
 use Rattle.std.proofs.Common.{ap, sym, ◌∙◌}
-use Rattle.std.proofs.Math.Logic.{Iff.trans, inl, inr}
+use Rattle.std.proofs.Math.Logic.{inl, inr}
+use mathlib.Core.Logic.Iff
 use borrow.Author.Tests.{eqb-true, eq-eqb}
 use Rattle.protocol.specs.Ledger.{Step, Ledger, ledger_holders}
 use Rattle.protocol.specs.Runs.{after_run}
