@@ -1,6 +1,6 @@
 -- LAWS. Sums, masks and counts over the cards below a bound: one turn of a loop that makes them, their bounds, and that a mask's ones are counted
 -- by the cards that it holds.
-use Rattle.std.specs.Prelude.{◌≡◌, ℕ, zero, suc, ◌+◌, ◌-◌, ◌*◌, ◌/◌, ◌%◌, ◌^◌, ◌<◌, ◌≤◌, Bool, true, false, cond, List, bit_or, refl}
+use Rattle.std.specs.Prelude.{◌≡◌, ℕ, zero, suc, ◌+◌, ◌*◌, ◌/◌, ◌%◌, ◌^◌, ◌<◌, ◌≤◌, Bool, true, false, cond, List, bit_or, refl}
 use Rattle.std.proofs.Common.{sym, ap, ◌∙◌, pow-suc, add_comm, mul-le-mul_right, mod-eq_of_lt, add-one, arith, lit<, shl_exact}
 use Rattle.std.proofs.Math.Nat.{mul-add-mod_self_right, mod-add-mod}
 use Rattle.std.specs.Int.Bits.{or_shifted_r}
