@@ -1,7 +1,6 @@
 // A message is read through a reader: the caller's bytes, and a position in them that only moves forward ("The reader walks the bytes from a
-// position that only moves forward"). The checker covers no function over a struct that holds a reference, so the two over this one are thin, leave
-// the work to `number`, and are proved by hand. `next` reads one number through a reader and answers the position behind it; what reads a part of a
-// message begins each number where the one before it ended, answers the position behind the part, and needs no proof by hand.
+// position that only moves forward"). The two functions over it are thin, and leave the work to `number`. `next` reads one number through a reader and
+// answers the position behind it; what reads a part of a message begins each number where the one before it ended, and answers the position behind it.
 // All are internal functions: the callers have tested the length.
 ghost use Rattle.std.specs.Prelude.{◌≡◌, ◌+◌, ◌≤◌, length};
 ghost use Rattle.wire.specs.Number.{int_width, hyper_width, number_at, int_at};
