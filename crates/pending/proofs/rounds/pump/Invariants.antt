@@ -1,0 +1,11 @@
+-- The invariant: some rounds of the call are done, and the list has the links that are open (`Pumping`). The measure: the deliveries that `most` allows still,
+-- and the links that are open.
+use Rattle.std.proofs.Common.{◌+◌, ◌-◌}
+use Rattle.pending.specs.RoundsLaws.{Pumping}
+use Rattle.pending.proofs.rounds.pump.Given as goal
+
+abbrev pub invariant-loop-count : goal.invariant-loop-count
+invariant-loop-count l = Pumping l.sizes l.most l.initial.words l.logs l.words l.places l.list l.made l.count
+
+abbrev pub decreases-loop-count : goal.decreases-loop-count
+decreases-loop-count l = (l.most - l.made) + l.count
