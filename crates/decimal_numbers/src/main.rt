@@ -4,8 +4,11 @@
 
 ghost use Rattle.std.specs.Prelude.{◌≡◌, ◌+◌, ◌*◌, ◌≤◌, length, take};
 
-use libc::{STDIN_FILENO, STDOUT_FILENO};
 use wire::number;
+
+const STDIN: i32 = 0;
+
+const STDOUT: i32 = 1;
 
 const MOST_NUMBERS: usize = 1024;
 
@@ -49,8 +52,8 @@ fn put_lines(input: &[u8], out: &mut [u8]) -> usize
 
 fn main() {
     let mut input = [0u8; NUMBER_BYTES * MOST_NUMBERS];
-    let length = io::read_full(STDIN_FILENO, &mut input);
+    let length = io::read_full(STDIN, &mut input);
     let mut out = [0u8; LINE_BYTES * MOST_NUMBERS];
     let count = put_lines(&input[..length], &mut out);
-    io::write_all(STDOUT_FILENO, &out[..count]);
+    io::write_all(STDOUT, &out[..count]);
 }

@@ -2,7 +2,7 @@
 -- It says nothing of the crate, and can be copied as it stands.
 --     ends             how the body ends: the tokens and the result are enough, with what is ensured of it
 --     by_hand          from the steps of the body, over the parameters' machine values written out, to the function's statement
---     calls-framed     the table of calls there is monotone under a frame, which a call of a function that is known by its contract asks (`Called`)
+--     calls_framed     the table of calls there is monotone under a frame, which a call of a function that is known by its contract asks (`Called`)
 -- `Silent` is a `refl` at any type that is written out.
 use mathlib.Core.List.{List, [], ◌∷◌}
 use Prim.Native.Nat.{ℕ}
@@ -11,7 +11,7 @@ use mir.Syntax.{Fn}
 use mir.Val.{Val}
 use base.Logic.{SProp, ent, id⊢, sep, emp, via, comm∗, mono_l, emp∗}
 use prog.Model.{Model}
-use prog.Routine.{Name, Env}
+use prog.Routine.{Callee, Env}
 use prog.Wp.{WpFn, Closed}
 use types.Logic.{Logic, sem}
 use types.Kit.{‵, raw, ◌$◌, ◌∵◌, !, qed, use0, frame, done}
@@ -82,7 +82,7 @@ module _ {M : Type 1} {𝓤 : Ura M} (𝓛 : Logic 𝓤) (𝓜 : Model 𝓤 𝓛
   unfolding tables_of
   calls_framed = fm_of 𝓤 H 𝓛.laws (tables_of 𝓤 H 𝓜 (tables 𝓤 H 𝓜 𝓡 γ))
 
-  module _ (k : Name) (e : Fn) (closed : Closed 𝓤 H (tables 𝓤 H 𝓜 𝓡 γ).C (tables 𝓤 H 𝓜 𝓡 γ).Λ k e) (T : Ended) (c : Clauses 𝓤 T) where
+  module _ (k : Callee) (e : Fn) (closed : Closed 𝓤 H (tables 𝓤 H 𝓜 𝓡 γ).C (tables 𝓤 H 𝓜 𝓡 γ).Λ k e) (T : Ended) (c : Clauses 𝓤 T) where
     pub by_hand : AllSilent 𝓛 T.signature.params T.kept
         → (sp : (κs : Lfts T.signature.lifetimes) → Spells (types_at T.signature.params κs)) → ((κs : Lfts T.signature.lifetimes) → Tellss (types_at T.signature.params κs) (Ises (types_at T.signature.params κs)) (sp κs))
         → ((κs : Lfts T.signature.lifetimes) (qs : Shares T.signature.lifetimes) (bounds : AllOutlive T.signature.lifetimes T.signature.outlives κs) (a : Args T.signature κs) (g : (c κs a).ghost)

@@ -1,13 +1,13 @@
 -- The rule for a call of a function that is known by its contract, in one step: what it is asked, by y; and once it has returned, its result, what it says of last values, the fact that it ensures, and the tokens.
 -- It says nothing of the crate, and can be copied as it stands.
---     calls-fn         the call is a statement with others after it.        calls-fn-last    it is the last statement of its part, as of a loop's turn
---     calls-told       `calls_fn`, with the machine value that the result's type tells, `vals r`, in the place of the one returned
+--     calls_fn         the call is a statement with others after it.        calls_fn_last    it is the last statement of its part, as of a loop's turn
+--     calls_told       `calls_fn`, with the machine value that the result's type tells, `vals r`, in the place of the one returned
 -- `clause` takes what the callee ensures to the fact φ: `λ r ws. id⊢ 𝓤 _`, where φ is its one `ensures`, as it is written.
 -- Assumes `Logic`, and that the table of calls is monotone under a frame.
 use mathlib.Core.Path.{sym, ap, subst}
 use mathlib.Core.List.{List, [], ◌∷◌}
 use seplogic.Ra.Ura.{Ura}
-use mir.Syntax.{Name, Place, Opd as Operand, Body, seq, call}
+use mir.Syntax.{Callee, Place, Opd as Operand, Body, seq, call}
 use mir.Val.{Val}
 use base.Logic.{ent, id⊢}
 use prog.Wp.{Env, Calls, Loops}
@@ -51,7 +51,7 @@ module _ {M : Type 1} {𝓤 : Ura M} (𝓛 : Logic 𝓤) (T : Ended) (c : Clause
         await t (z w) $ pick t (λ r. split t $ move t (1 ∷ []) $ pick t (λ ws. split t $ move t (1 ∷ []) $ use1 𝓛 (raw (fact 𝓤 (φ r ws))) (clause r ws) $ heard t (φ r ws) (λ e.
         move t (1 ∷ []) $ split t $ move t (1 ∷ 2 ∷ 0 ∷ []) $ peeks t (type_at T.signature.result y.0.0) (Is (type_at T.signature.result y.0.0)) (shows 𝓛 (type_at T.signature.result y.0.0)) r (w ∷ []) (λ is. k w r ws e is))))
 
-module _ {M : Type 1} {𝓤 : Ura M} {𝓛 : Logic 𝓤} {K : Type 0} {Γ : List (Item 𝓤)} {E : Env 𝓤 𝓛.H} {C : Calls 𝓤 𝓛.H} {Λ : Loops 𝓤 𝓛.H} {q : Post 𝓤 𝓛.H} {f : Name} {xs : List Operand} {d : Place} where
+module _ {M : Type 1} {𝓤 : Ura M} {𝓛 : Logic 𝓤} {K : Type 0} {Γ : List (Item 𝓤)} {E : Env 𝓤 𝓛.H} {C : Calls 𝓤 𝓛.H} {Λ : Loops 𝓤 𝓛.H} {q : Post 𝓤 𝓛.H} {f : Callee} {xs : List Operand} {d : Place} where
   open 𝓛 use {H}
 
   pub calls_fn : K → FmC 𝓤 H 𝓛.laws C → {rest : Body} (T : Ended) (c : Clauses 𝓤 T) → Triple 𝓤 (C f) (Meant 𝓛 T c) → (y : (Meant 𝓛 T c).Ghost) (φ : Res T.signature y.0.0 → Lasts T y.0.0 y.0.3 → Type 0) → Clause 𝓛 T c y φ
