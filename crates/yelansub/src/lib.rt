@@ -1,7 +1,7 @@
 // The calls for a host in C or Rust: each is the proved call under its exported name, with the call's own contract. See include/yelansub.h.
 #![tactic(auto)]
 
-mod records;
+pub mod records;
 
 ghost use Rattle.std.specs.Prelude.{◌≡◌};
 ghost use Rattle.wire.specs.Message.{read_message, WriteOutcome, write_message};
@@ -16,113 +16,91 @@ use replica_model::{Active, Cleared, Reading, Sent, Taken};
 use wire::{Message, Written};
 
 // Ruled out: another own card written, and a replica left as it was with number 0.
-#[unsafe(no_mangle)]
-pub extern "C" fn yelansub_open(words: &mut [u64], cards: u64, counters: u64, own: u64) -> u64
+pub fn yelansub_open(words: &mut [u64], cards: u64, counters: u64, own: u64) -> u64
     ensures { ◌≡◌ {A = OpenOutcome} (record { number = result; words = words.new }) (open_on words.old cards counters own) }
 {
     replica::open::open(words, cards, counters, own)
 }
 
 // Ruled out: another counter's reading (must-fail/read_counter_0), and a reading of zeros.
-#[unsafe(no_mangle)]
-pub extern "C" fn yelansub_read(words: &[u64], counter: u64) -> Reading
+pub fn yelansub_read(words: &[u64], counter: u64) -> Reading
     ensures { result ≡ read_on words.now counter }
 {
     replica::read::read(words, counter)
 }
 
 // Ruled out: another word of the replica's.
-#[unsafe(no_mangle)]
-pub extern "C" fn yelansub_active_counters(words: &[u64]) -> Active
+pub fn yelansub_active_counters(words: &[u64]) -> Active
     ensures { result ≡ active_on words.now }
 {
     replica::read::active_counters(words)
 }
 
 // Ruled out: a clear in place of a count, another amount, and a message that is not written.
-#[unsafe(no_mangle)]
-pub extern "C" fn yelansub_count(
-    words: &mut [u64],
-    counter: u64,
-    amount: u64,
-    out: &mut [u8],
-) -> Sent
+pub fn yelansub_count(words: &mut [u64], counter: u64, amount: u64, out: &mut [u8]) -> Sent
     ensures { ◌≡◌ {A = SendOutcome} (record { answer = result; words = words.new; out = out.new }) (count_on words.old counter amount out.old) }
 {
     sending::counting::count(words, counter, amount, out)
 }
 
 // Ruled out: a count in place of a clear, and an own replica that is not cleared.
-#[unsafe(no_mangle)]
-pub extern "C" fn yelansub_clear(words: &mut [u64], counter: u64, out: &mut [u8]) -> Sent
+pub fn yelansub_clear(words: &mut [u64], counter: u64, out: &mut [u8]) -> Sent
     ensures { ◌≡◌ {A = SendOutcome} (record { answer = result; words = words.new; out = out.new }) (clear_on words.old counter out.old) }
 {
     sending::clearing::clear(words, counter, out)
 }
 
 // Ruled out: a clear without the value (must-fail/cleared_without_value), and an own replica that is not cleared.
-#[unsafe(no_mangle)]
-pub extern "C" fn yelansub_read_and_clear(
-    words: &mut [u64],
-    counter: u64,
-    out: &mut [u8],
-) -> Cleared
+pub fn yelansub_read_and_clear(words: &mut [u64], counter: u64, out: &mut [u8]) -> Cleared
     ensures { ◌≡◌ {A = ClearedOutcome} (record { answer = result; words = words.new; out = out.new }) (read_and_clear_on words.old counter out.old) }
 {
     sending::clearing::read_and_clear(words, counter, out)
 }
 
 // Ruled out: a take that keeps the replica, and a number of its own.
-#[unsafe(no_mangle)]
-pub extern "C" fn yelansub_take(words: &mut [u64], message: &[u8]) -> Taken
+pub fn yelansub_take(words: &mut [u64], message: &[u8]) -> Taken
     ensures { ◌≡◌ {A = TakeOutcome} (record { answer = result; words = words.new }) (take_on words.old message.now) }
 {
     taking::take::take(words, message)
 }
 
 // Ruled out: a reader that only declines (must-fail/read_message_declines), and one that reads a part of the bytes.
-#[unsafe(no_mangle)]
-pub extern "C" fn yelansub_read_message(bytes: &[u8]) -> wire::Reading
+pub fn yelansub_read_message(bytes: &[u8]) -> wire::Reading
     ensures { result ≡ read_message bytes.now }
 {
     wire::decode::read_message(bytes)
 }
 
 // Ruled out: a refusal answered with 0 (must-fail/write_refusal_hidden), and a message that is not written.
-#[unsafe(no_mangle)]
-pub extern "C" fn yelansub_write_message(message: Message, out: &mut [u8]) -> Written
+pub fn yelansub_write_message(message: Message, out: &mut [u8]) -> Written
     ensures { ◌≡◌ {A = WriteOutcome} (record { answer = result; out = out.new }) (write_message message out.old) }
 {
     wire::encode::write_message(message, out)
 }
 
 // Ruled out: a log of version 2 converted to version 1, and a refusal answered with 0.
-#[unsafe(no_mangle)]
-pub extern "C" fn yelansub_to_version_2(log: &[u8], out: &mut [u8]) -> Written
+pub fn yelansub_to_version_2(log: &[u8], out: &mut [u8]) -> Written
     ensures { ◌≡◌ {A = WriteOutcome} (record { answer = result; out = out.new }) (to_version_2_on log.now out.old) }
 {
     converter::to_version_2(log, out)
 }
 
 // Ruled out: a log that is converted to version 2 (must-fail/converted_the_other_way), and a refusal answered with 0.
-#[unsafe(no_mangle)]
-pub extern "C" fn yelansub_to_version_1(log: &[u8], out: &mut [u8]) -> Written
+pub fn yelansub_to_version_1(log: &[u8], out: &mut [u8]) -> Written
     ensures { ◌≡◌ {A = WriteOutcome} (record { answer = result; out = out.new }) (to_version_1_on log.now out.old) }
 {
     converter::to_version_1(log, out)
 }
 
 // Ruled out: every log's first message, and a span of a message that does not read.
-#[unsafe(no_mangle)]
-pub extern "C" fn yelansub_waiting(log: &[u8], q: u64) -> Span
+pub fn yelansub_waiting(log: &[u8], q: u64) -> Span
     ensures { result ≡ waiting_span q log.now }
 {
     chassis::log::waiting_span(log, q)
 }
 
 // Ruled out: cards and counters exchanged, and answers that are not written.
-#[unsafe(no_mangle)]
-pub extern "C" fn yelansub_run(
+pub fn yelansub_run(
     cards: u64,
     counters: u64,
     log_bytes: u64,
@@ -137,8 +115,7 @@ pub extern "C" fn yelansub_run(
 }
 
 // Ruled out: one delivery where more wait, and a number of deliveries that is not the one made.
-#[unsafe(no_mangle)]
-pub extern "C" fn yelansub_deliver_pending(
+pub fn yelansub_deliver_pending(
     cards: u64,
     counters: u64,
     log_bytes: u64,

@@ -57,8 +57,7 @@ fn answer_record<'a>(
 // Runs the steps from fresh replicas: the number, and of each step its answer. It is the run over bytes in all but the form of its steps
 // (claim `same_run`). The proof is by hand.
 // Ruled out: answers that are not two for each step (must-fail/answers_not_counted), and a declined run that changes the words.
-#[unsafe(no_mangle)]
-pub extern "C" fn yelansub_run_records(
+pub fn yelansub_run_records(
     cards: u64,
     counters: u64,
     log_bytes: u64,
