@@ -15,7 +15,6 @@ use Rattle.wire.specs.Number.{number_at, bytes_of}
 use Rattle.wire.specs.Message as form
 use Rattle.wire.specs.Message.{header_bytes, increment_bytes, entry_bytes, entries_bytes, clear_bytes, message_bytes, header_in_range, increment_in_range, amount_in_range, clear_in_range, entry_in_range, entries_in_range, unused, in_range, increment_message, entries_at, called_length, message_at, reads}
 use Rattle.replica_model.specs.Layout.{fresh_words}
-use Rattle.replica_model.specs.Calls as calls
 use Rattle.replica_model.specs.Calls.{sizes_in_range, right, row_well_formed, reading, read_on, count_on, clear_on, replica_fits, send_with, words_after, take_with}
 use Rattle.replica_model.specs.Format.{content}
 use Rattle.chassis_model.specs.Run.{call_of}

@@ -10,7 +10,7 @@ use Rattle.protocol.proofs.Makers.{holds_is}
 use Rattle.protocol.proofs.Theorem.{value_is, holders_are}
 use Rattle.protocol.specs.Functions.{count_below}
 use Rattle.protocol.proofs.AcceptanceLaws.{count_cong}
-use Rattle.replica_model.specs.Layout.{cards, entry_of, layout}
+use Rattle.replica_model.specs.Layout.{entry_of, layout}
 use Rattle.replica_model.specs.declared.Reading.{Reading}
 use Rattle.replica_model.specs.Calls.{reading, read_on, holders}
 use Rattle.replica_model.proofs.CallsLaws.{read_passes}

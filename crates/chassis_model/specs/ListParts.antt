@@ -1,5 +1,5 @@
 -- DEFINITIONS. A list cut into parts of n elements each: "Each card's replica is its own stretch of the caller's words", and so is its log of the log bytes.
-use Rattle.std.specs.Prelude.{ℕ, ◌+◌, ◌*◌, List, ◌++◌, take, drop}
+use Rattle.std.specs.Prelude.{ℕ, ◌*◌, List, ◌++◌, take, drop}
 
 -- part i
 unfoldable pub part : ℕ → List ℕ → ℕ → List ℕ

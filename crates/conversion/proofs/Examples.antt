@@ -1,5 +1,5 @@
 -- CLAIMS. A capture of three messages of version 1, computed: what it is in version 2 and back, what is refused, and in which order.
-use Rattle.std.specs.Prelude.{ℕ, ◌≡◌, refl, List, [], ◌∷◌, ◌++◌, length, drop, take, replicate}
+use Rattle.std.specs.Prelude.{ℕ, ◌≡◌, refl, List, [], ◌∷◌, ◌++◌, drop, take, replicate}
 use Rattle.protocol.specs.Limits.{short_output, unreadable, above_one}
 use Rattle.wire.specs.Number.{number_at, bytes_of}
 use Rattle.wire.specs.Message.{header_bytes, increment_bytes, entry_bytes, entries_bytes, clear_bytes, message_bytes, header_in_range, increment_in_range, amount_in_range, clear_in_range, entry_in_range, entries_in_range, unused, in_range, increment_message, clear_message, entries_at, called_length, message_at, reads, front_length, log_bytes, messages_from, write_declined}

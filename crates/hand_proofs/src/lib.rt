@@ -1,2 +1,3 @@
-// No code: what the proofs by hand of the other crates share stands in proofs/.
+// No code: lemmas for proofs by hand stand in proofs/. Since the toolchain proves a function over a struct that holds a reference and one over a slice of structs,
+// no other crate cites them.
 #![tactic(auto)]

@@ -1,6 +1,6 @@
 -- LAWS. Every call of a card keeps its replica right and all its rows well-formed, so in whatever it reaches from a fresh one each bit of the active counters says
 -- whether its row has an entry, which is whether a read of it gives holders.
-use Rattle.std.specs.Prelude.{ℕ, ◌^◌, ◌≤◌, ◌<◌, ◌≡◌, refl, ◌≢◌, List, [], ◌∷◌, true, false, not, eqb, length}
+use Rattle.std.specs.Prelude.{ℕ, ◌^◌, ◌≤◌, ◌<◌, ◌≡◌, refl, List, [], ◌∷◌, false, not, eqb, length}
 use Rattle.std.proofs.Common.{sym, ap, ◌∙◌, arith, le-ltb, eq-eqb, ne_eqb}
 use Rattle.std.proofs.lemmas.Bool.{false≢true}
 use Rattle.protocol.proofs.Cases.{by_test, by_place, and_no_right}

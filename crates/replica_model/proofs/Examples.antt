@@ -1,5 +1,5 @@
 -- CLAIMS. The scenarios of a single card (SPECIFICATION 10.1), computed on the calls' definitions.
-use Rattle.std.specs.Prelude.{ℕ, ◌+◌, ◌-◌, ◌≡◌, refl, List, [], ◌∷◌, Bool, true, not, ◌&&◌, length, replicate, set, eqb}
+use Rattle.std.specs.Prelude.{ℕ, ◌+◌, ◌-◌, ◌≡◌, refl, List, [], ◌∷◌, Bool, true, not, ◌&&◌, replicate, set, eqb}
 use Rattle.protocol.specs.Limits.{MAX}
 use Rattle.protocol.proofs.Tables.{put, sum, bits}
 use Rattle.protocol.specs.Entry.{incremented, cleared}

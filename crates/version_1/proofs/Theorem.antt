@@ -1,11 +1,11 @@
 -- LAWS. Every run of old and new cards stays beside the theory's chassis, so the logs of version 1 convert; and deliveries behind it, from its logs by version 1's rules or from the
 -- converted ones by the rules of today, leave the same words and answer the same numbers.
 use Rattle.std.specs.Prelude.{ℕ, ◌≤◌, ◌≡◌, refl, Bool, true, false, List, [], ◌∷◌, length, ltb}
-use Rattle.std.proofs.Common.{sym, ap, ap₂, ◌∙◌, le-leb, ltb-true}
+use Rattle.std.proofs.Common.{sym, ap, ap₂, ◌∙◌, ltb-true}
 use Rattle.protocol.proofs.Cases.{by_test}
 use Rattle.protocol.specs.Checks.{first_failing}
 use Rattle.protocol.specs.RoundRobin.{Link}
-use Rattle.wire.specs.Message.{version_1, version_2, increment_length, clear_length, log_bytes, messages_in, is_log}
+use Rattle.wire.specs.Message.{version_1, version_2, increment_length, clear_length, log_bytes}
 use Rattle.conversion.specs.Conversion.{converted, converted_into, to_version_2_on, to_version_1_on}
 use Rattle.conversion.proofs.ConversionLaws.{up_does, down_does}
 use Rattle.replica_model.specs.Calls as today

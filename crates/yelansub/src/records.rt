@@ -55,7 +55,7 @@ fn answer_record<'a>(
 }
 
 // Runs the steps from fresh replicas: the number, and of each step its answer. It is the run over bytes in all but the form of its steps
-// (claim `same_run`). The proof is by hand.
+// (claim `same_run`).
 // Ruled out: answers that are not two for each step (must-fail/answers_not_counted), and a declined run that changes the words.
 pub fn yelansub_run_records(
     cards: u64,

@@ -15,8 +15,7 @@ pub loop-i-init : goal.loop-i-init
 loop-i-init c =
     let begun = c.begin_records-number in
     let given = begun_given c.args.cards c.args.counters c.args.log_bytes c.args.steps.now c.args.words.now c.args.logs.now c.args.answers.now _ _ begun.ensures (eq-eqb _ 0 c.if-number-ne0.false) in
-    let room = begun_answers c.args.cards c.args.counters c.args.log_bytes c.args.steps.now c.args.words.now c.args.logs.now c.args.answers.now _ _ begun.ensures (eq-eqb _ 0 c.if-number-ne0.false) in
-    (
+    let room = begun_answers c.args.cards c.args.counters c.args.log_bytes c.args.steps.now c.args.words.now c.args.logs.now c.args.answers.now _ _ begun.ensures (eq-eqb _ 0 c.if-number-ne0.false) in (
       given,
       running_begins c.args.cards c.args.counters c.args.log_bytes c.args.steps.now (state_of begun.new.words c.args.logs.now) c.args.answers.now room,
       refl,
@@ -24,8 +23,7 @@ loop-i-init c =
 
 pub loop-i-preserved : goal.loop-i-preserved
 loop-i-preserved c =
-    let did = c.answer_record-i.ensures in
-    (
+    let did = c.answer_record-i.ensures in (
       did.given,
       record_next _ _ _ _ _ _ _ _ _ _ _ _ _ _ _ c.loop-i-test.true did c.loop-i.invariant.1,
       answers_long did ∙ c.loop-i.invariant.2,
