@@ -15,7 +15,7 @@ fn main() {
     let archive = folder.join("libyelansub.a");
     assert!(
         archive.is_file(),
-        "{} is missing: build it with `rt staticlib yelansub` at the repository's root",
+        "{} is missing: build it with `scripts/build` at the repository's root",
         archive.display()
     );
     println!("cargo:rerun-if-changed={}", archive.display());

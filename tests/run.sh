@@ -1,7 +1,7 @@
 #!/bin/sh
 # Every test of the static library and of the programs; stops at the first failure. Builds none of
-# them: it expects target/staticlib/libyelansub.a (`rt staticlib yelansub`), or one in
-# YELANSUB_ARCHIVE_DIR, and target/bin/ (`rt check chassis_listing decimal_numbers`).
+# them: it expects what scripts/build makes, target/staticlib/libyelansub.a, or one in
+# YELANSUB_ARCHIVE_DIR, and target/bin/.
 # Needs gcc and cargo, nothing else.
 set -eu
 root=$(cd "$(dirname "$0")/.." && pwd)
@@ -10,11 +10,11 @@ export YELANSUB_ARCHIVE_DIR
 listing=$root/target/bin/chassis_listing
 numbers=$root/target/bin/decimal_numbers
 if [ ! -f "$YELANSUB_ARCHIVE_DIR/libyelansub.a" ]; then
-    echo "no libyelansub.a in $YELANSUB_ARCHIVE_DIR: run 'rt staticlib yelansub' first" >&2
+    echo "no libyelansub.a in $YELANSUB_ARCHIVE_DIR: run scripts/build first" >&2
     exit 1
 fi
 if [ ! -x "$listing" ] || [ ! -x "$numbers" ]; then
-    echo "a program is missing in $root/target/bin: run 'rt check chassis_listing decimal_numbers' first" >&2
+    echo "a program is missing in $root/target/bin: run scripts/build first" >&2
     exit 1
 fi
 "$root/tests/gate.sh"
