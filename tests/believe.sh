@@ -33,6 +33,6 @@ must_say() {
 sed '1s/DEFINITIONS/LAWS/' "$root/$ledger" > "$work/$ledger"
 must_say '.* is to be believed, and its file says LAWS' 'a ledger in a LAWS file'
 # A line more of the file's last definition.
-(cat "$root/$ledger" && echo '    no-such-name') > "$work/$ledger"
-must_say '`no-such-name` is nothing that is known here' 'a name that means nothing'
+(cat "$root/$ledger" && echo '    no_such_name') > "$work/$ledger"
+must_say '`no_such_name` is nothing that is known here' 'a name that means nothing'
 exit $status

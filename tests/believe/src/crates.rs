@@ -3,13 +3,26 @@
 use std::collections::HashMap;
 use std::{fs, io, path::Path};
 
-/// The toolchain's libraries: their names are counted and not followed.
-const LIBRARIES: [&str; 7] = ["mathlib", "lib", "native", "Prim", "borrow", "mir", "denote"];
+/// The toolchain's libraries, beside `Rattle.std`: their names are counted and not followed.
+const LIBRARIES: [&str; 13] = [
+    "mathlib", "lib", "native", "Prim", "borrow", "mir", "denote", "base", "contract", "prog",
+    "seplogic", "sound", "types",
+];
 
 /// Of what `Prim` brings into every file with no `use` line: what is in use, and the tactics.
-const PRELUDE: &str = "Unit tt ⊥ ¬_ absurd rw rw⁻¹ simp search grw cc omega";
+const PRELUDE: &str = "Unit tt ⊥ ¬◌ absurd rw rw⁻¹ simp search grw cc omega";
+
+/// The crate whose files of `proofs/` are the frame of proofs by hand. They say nothing of a crate
+/// and none of the three words, and are not read: a name in them is nothing that is known.
+const FRAME: &str = "hand_proofs";
 
 const EXPORT: &str = "pub extern \"C\" fn ";
+
+/// What stands above an export, so that the archive has its name.
+const EXPORTED: &str = "#[unsafe(no_mangle)]";
+
+/// What a line of an export has, and no other line.
+const OF_EXPORTS: [&str; 3] = ["extern \"", "no_mangle", "export_name"];
 
 /// What requests speak of and no host calls, the listing and the digit writer: the crate, and how
 /// the function begins.
@@ -30,7 +43,7 @@ pub struct File {
 pub enum Meaning {
     /// Something that is declared, by its number.
     Item(usize),
-    /// A whole path; when all is followed, one into a library or into the `proofs/` of a crate.
+    /// A whole path; when all is followed, one into a library.
     Path(String),
 }
 
@@ -85,8 +98,10 @@ impl Crates {
     pub fn load(root: &Path) -> io::Result<Crates> {
         let mut crates = Crates::default();
         for krate in sorted(&root.join("crates"))? {
-            for folder in ["specs", "src"] {
-                crates.load_folder(root, &krate, &format!("crates/{krate}/{folder}"))?;
+            for folder in ["specs", "proofs", "src"] {
+                if folder != "proofs" || krate != FRAME {
+                    crates.load_folder(root, &krate, &format!("crates/{krate}/{folder}"))?;
+                }
             }
         }
         // Names that are followed from nowhere would lead to nothing wrong.
@@ -102,10 +117,13 @@ impl Crates {
         Ok(crates)
     }
 
+    /// Of `proofs/` the files right there: in its folders are the proofs of functions.
     fn load_folder(&mut self, root: &Path, krate: &str, folder: &str) -> io::Result<()> {
         for path in sorted(&root.join(folder))?.iter().map(|name| format!("{folder}/{name}")) {
             if root.join(&path).is_dir() {
-                self.load_folder(root, krate, &path)?;
+                if !folder.ends_with("/proofs") {
+                    self.load_folder(root, krate, &path)?;
+                }
                 continue;
             }
             let text = fs::read_to_string(root.join(&path))?;
@@ -155,7 +173,7 @@ impl Crates {
                 read.clear();
             } else if is_comment(line) {
                 read.push(n + 1);
-            } else if !line.starts_with("#[") && !line.trim_start().starts_with("unfolding ") {
+            } else if !line.starts_with('#') && !line.trim_start().starts_with("unfolding ") {
                 let understood = match self.file().label.as_str() {
                     "src" => self.read_code(line, part),
                     _ => self.read_specification(line, part),
@@ -174,7 +192,11 @@ impl Crates {
             }
         }
         let count = |text| lines.iter().filter(|line| line.starts_with(text)).count();
-        if count("#[no_mangle]") != count(EXPORT) {
+        let is_of_export =
+            |line: &&String| !is_comment(line) && OF_EXPORTS.iter().any(|word| line.contains(word));
+        let of_exports = lines.iter().filter(is_of_export).count();
+        let (exports, exported) = (count(EXPORT), count(EXPORTED));
+        if self.file().label == "src" && [exported, of_exports] != [exports, 2 * exports] {
             self.problem(": what is exported here is not understood");
         }
         let declares = self.items.last().is_some_and(|item| item.file + 1 == self.files.len());
@@ -256,13 +278,17 @@ impl Crates {
             return self.import(path);
         }
         if let Some(path) = bare.strip_prefix("use ") {
-            // A struct's path in code, `wire::reader::Header`, as the path of its record.
-            let (first, rest) = path.trim_end_matches(';').split_once("::")?;
+            // A struct's path in code, `wire::reader::Header` or one of `wire::{Message, number}`,
+            // as the path of its record.
+            let (first, rest) = path.trim_end_matches(['}', ';']).split_once("::")?;
             let krate = if first == "crate" { &krate } else { first };
-            let (path, name) = (rest.replace("::", "."), rest.rsplit("::").next()?);
-            if name.starts_with(char::is_uppercase) {
-                let path = format!("Rattle·{krate}.specs.declared.{path}.{name}");
-                self.name(name, Meaning::Path(path));
+            let (module, names) = rest.split_once('{').unwrap_or(("", rest));
+            for path in names.split(", ").map(|name| format!("{module}{name}").replace("::", ".")) {
+                let name = path.rsplit('.').next()?;
+                if name.starts_with(char::is_uppercase) {
+                    let path = format!("Rattle.{krate}.specs.declared.{path}.{name}");
+                    self.name(name, Meaning::Path(path));
+                }
             }
             return Some(Part::Nothing);
         }
@@ -304,11 +330,13 @@ impl Crates {
             return Some((self.follow(meanings)?, 1));
         }
         if parts.len() > 1 {
-            return Some((self.find(word)?, parts.len()));
+            // A whole path, or a field of something that is bound.
+            let path = Some(word).filter(|_| ["Rattle", "Prim"].contains(&parts[0]))?;
+            return Some((self.find(path)?, parts.len()));
         }
-        // A part of an operator: `≡` of `_≡_`.
-        let bare = word.trim_matches('_');
-        let has_part = |name: &str| name.contains('_') && name.split('_').any(|part| part == bare);
+        // A part of an operator: `≡` of `◌≡◌`.
+        let bare = word.trim_matches('◌');
+        let has_part = |name: &str| name.contains('◌') && name.split('◌').any(|part| part == bare);
         let operators = file.names.iter().filter(|(name, _)| has_part(name));
         let meanings: Vec<Meaning> = operators.flat_map(|(_, meanings)| meanings.clone()).collect();
         if !meanings.is_empty() {
@@ -329,19 +357,24 @@ impl Crates {
 
     fn find(&self, path: &str) -> Option<Vec<Meaning>> {
         let parts: Vec<&str> = path.split('.').collect();
-        if LIBRARIES.contains(&parts[0]) || parts.get(1) == Some(&"proofs") {
+        if LIBRARIES.contains(&parts[0]) || path.starts_with("Rattle.std.") {
             return Some(vec![Meaning::Path(path.to_string())]);
         }
-        // `Rattle·NAME.specs.M.name`, or inside the crate NAME `Rattle·NAME·specs.specs.M.name`.
-        let krate = parts[0].strip_prefix("Rattle·")?.trim_end_matches("·specs");
-        let (file, name) = match &parts[1..] {
+        let code = |module: &[&str]| match module {
+            [] => "src/lib.rt".to_string(),
+            _ => format!("src/{}.rt", module.join("/")),
+        };
+        let (krate, file, name) = match &parts[..] {
             // A variant stands in its enum.
-            ["specs", "declared", name, "the-variants", _] => ("src/lib.rt".to_string(), name),
-            ["specs", "declared", _, name] => ("src/lib.rt".to_string(), name),
-            ["specs", "declared", module @ .., _, name] => {
-                (format!("src/{}.rt", module.join("/")), name)
+            ["Rattle", krate, "specs", "declared", module @ .., name, "TheVariants", _] => {
+                (krate, code(module), name)
             }
-            ["specs", module @ .., name] => (format!("specs/{}.antt", module.join("/")), name),
+            ["Rattle", krate, "specs", "declared", module @ .., of, name] => {
+                (krate, code(module), Some(name).filter(|_| of == name || *of == "TheConstants")?)
+            }
+            ["Rattle", krate, folder @ ("specs" | "proofs"), module @ .., name] => {
+                (krate, format!("{folder}/{}.antt", module.join("/")), name)
+            }
             _ => return None,
         };
         let path = format!("crates/{krate}/{file}");

@@ -13,6 +13,10 @@ use crates::{is_comment, Crates, Item, Kind, Meaning};
 use std::collections::{BTreeMap, BTreeSet, VecDeque};
 use std::{env, path::Path, process::ExitCode};
 
+/// A record of the toolchain's libraries whose fields are used: a thing that is lent, what it holds
+/// and where that stands.
+const LENT: (&str, [&str; 2]) = ("Rattle.std.specs.Borrow.Bor", ["now", "ref_ptr"]);
+
 /// How an item is reached.
 struct Reached {
     /// As a definition; if not, as a claim, of which only the statement counts.
@@ -47,9 +51,6 @@ impl Believed<'_> {
             let mentions = mentions::mentions(self.crates, item, self.reached[&id].whole);
             for meaning in mentions.meanings {
                 match meaning {
-                    Meaning::Path(path) if path.starts_with("Rattle·") => {
-                        self.problem(id, self.line(id), &format!("`{path}` stands in proofs/"));
-                    }
                     Meaning::Path(path) => drop(self.library.insert(path)),
                     Meaning::Item(other) if other == id => {}
                     Meaning::Item(other) => {
@@ -78,8 +79,13 @@ impl Believed<'_> {
     fn check_fields(&mut self) {
         let items = self.reached.keys().map(|id| &self.crates.items[*id]);
         let known: BTreeSet<&String> = items.flat_map(|item| &item.members).collect();
+        let (lent, of_lent) = LENT;
         for (id, line, name) in std::mem::take(&mut self.fields) {
-            if !known.contains(&name) {
+            if known.contains(&name) {
+                continue;
+            } else if self.library.contains(lent) && of_lent.contains(&name.as_str()) {
+                self.library.insert(format!("{lent}.{name}"));
+            } else {
                 self.problem(id, line, &format!("`.{name}` is a field of nothing that is reached"));
             }
         }

@@ -10,8 +10,11 @@ use std::collections::BTreeSet;
 const LANGUAGE: &str = "( ) { } [ ] | ; , . _ : = → × ↦ λ let in elim as record data module where \
                         Type pub abbrev unfoldable";
 
-/// What a contract says besides: what a thing that is lent holds, and that something is a fact.
-const OF_CONTRACTS: &str = "requires ensures now ⌜ ⌝ .entry .exit";
+/// What a contract says besides.
+const OF_CONTRACTS: &str = "requires ensures result";
+
+/// What a contract says of a parameter: what a thing that is lent holds, and what was passed.
+const OF_PARAMETERS: &str = "now old new entry";
 
 const OF_STRUCTS: &str = "u8 u16 u32 u64 usize bool";
 
@@ -76,21 +79,25 @@ pub fn mentions(crates: &Crates, item: &Item, whole: bool) -> Mentions {
                 continue;
             }
         };
-        let fields = text.split('.').skip(parts).filter(|field| !is_number(field));
+        let of_parameter =
+            |field: &str| item.kind == Kind::Contract && is_one_of(OF_PARAMETERS, field);
+        let fields = text.split('.').skip(parts);
+        let fields = fields.filter(|field| !is_number(field) && !of_parameter(field));
         mentions.fields.extend(fields.map(|field| (field.to_string(), line)));
     }
     mentions
 }
 
 /// The names that are bound: between `λ` and its dot; before a `:`, a `=` or a `↦`, back to what
-/// opens the group around, to a `;`, to `let`, to `[` or `|`, or to the begin of the line.
+/// opens the group around, to a `;`, to `let`, to `[` or `|`, or to the begin of the line. A group
+/// before a `:` binds names by a `:` of its own, or it is a name's levels, `{ℓ ℓ'}`.
 fn bind(tokens: &[Token], bound: &mut BTreeSet<String>) {
     for (i, token) in tokens.iter().enumerate() {
         if token.text == "λ" {
             bound.extend(tokens[i..].iter().map(|t| t.text.clone()).take_while(|text| text != "."));
         }
         if [":", "=", "↦"].contains(&token.text.as_str()) {
-            let mut depth = 0;
+            let (mut depth, is_type) = (0, token.text == ":");
             for token in tokens[..i].iter().rev() {
                 match token.text.as_str() {
                     ")" | "}" => depth += 1,
@@ -98,7 +105,9 @@ fn bind(tokens: &[Token], bound: &mut BTreeSet<String>) {
                     _ => {}
                 }
                 let begins = [";", "let", "[", "|"].contains(&token.text.as_str());
-                bound.insert(token.text.clone());
+                if depth == 0 || !is_type || token.text.starts_with('ℓ') {
+                    bound.insert(token.text.clone());
+                }
                 if depth < 0 || (depth == 0 && (begins || token.first_on_line)) {
                     break;
                 }
