@@ -1,3 +1,4 @@
+pub mod DecimalLaws
 pub mod PutLaws
 pub mod TextLaws
 pub mod Claims

@@ -6,7 +6,8 @@ use Rattle.std.proofs.Math.Seq.{length-sets}
 use Rattle.protocol.proofs.StoredLists.{sets_append, sets_front}
 use Rattle.text.specs.Decimal.{digit, word_digits, decimal}
 use Rattle.text.specs.Put.{Put, most_digits}
-use Rattle.text.specs.DecimalLaws.{Counted, fixed, fixed_length, fixed_first, digits_fixed}
+use Rattle.text.specs.DecimalLaws.{Counted, fixed}
+use Rattle.text.proofs.DecimalLaws.{fixed_length, fixed_first, digits_fixed}
 
 pub put_none : (before : List ℕ) (at : ℕ) → Put 0 before at [] before at
 put_none before at = record { stored = refl; next = omega arith; short = omega arith }

@@ -6,7 +6,8 @@ use Rattle.std.proofs.Math.Nat.{pow-le-pow_right, div-add-mod}
 use Rattle.protocol.proofs.Cases.{by_le}
 use Rattle.protocol.proofs.Tests.{tests}
 use Rattle.text.specs.Decimal.{digit, digits, said, number_of, only_digits, plain}
-use Rattle.text.specs.DecimalLaws.{fixed, fixed_first, digits_one, digits_more, digits_fixed}
+use Rattle.text.specs.DecimalLaws.{fixed}
+use Rattle.text.proofs.DecimalLaws.{fixed_first, digits_one, digits_more, digits_fixed}
 
 -- ---- digits read back
 
