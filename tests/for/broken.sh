@@ -1,7 +1,7 @@
 #!/bin/sh
 # Every check of tests/for on an archive, or a file beside it, with one thing wrong that it is there to
 # find: each must fail, and say what it should. tests/for/broken.sh MODULE, where MODULE is one that
-# `rt staticlib` has compiled, over the sound archives in target/for.
+# tests/for/keep.sh has kept, over the sound archives in target/for.
 set -eu
 root=$(cd "$(dirname "$0")/../.." && pwd)
 module=$1

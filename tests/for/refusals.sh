@@ -1,6 +1,6 @@
 #!/bin/sh
 # What scripts/build-for refuses, in a copy and with changed modules: tests/for/refusals.sh MODULE, where
-# MODULE is one that `rt staticlib` has compiled. Each refusal has status 2, says why in one sentence, and
+# MODULE is one that tests/for/keep.sh has kept. Each refusal has status 2, says why in one sentence, and
 # leaves no archive, also where one stood.
 set -eu
 root=$(cd "$(dirname "$0")/../.." && pwd)
@@ -25,7 +25,7 @@ refuses() {
         exit 1
     fi
     cases=$((cases + 1))
-    module=$kept staticlib=$replayed
+    module=$kept lib=$replayed
 }
 # changed SED-COMMAND...: the module, as text, with one thing other than it was.
 changed() {
@@ -45,9 +45,9 @@ done
 refuses 'TARGET is ' ''
 refuses 'TARGET is ' mips64
 refuses 'TARGET is ' x86_64
-staticlib='exit 1'
+lib='exit 1'
 refuses 'not proved' aarch64
-staticlib=:
+lib=:
 refuses 'rt has compiled no module' aarch64
 echo 'no module' > "$work/none.bc"
 module=$work/none.bc
@@ -55,9 +55,9 @@ refuses 'the module does not read' aarch64
 refuses 'clang does not take the flags' aarch64 -mno-such-flag
 
 shape='not the shape of module'
-changed 's/"target-cpu"="x86-64"/"target-cpu"="x86-64-v3"/'
+changed 's/"target-cpu"="x86-64-v2"/"target-cpu"="x86-64-v3"/'
 refuses "$shape" aarch64
-changed 's/"target-cpu"="x86-64"/"target-features"="+sse4.2"/'
+changed 's/"target-cpu"="x86-64-v2"/"target-features"="+sse4.2"/'
 refuses "$shape" riscv64
 changed '$a @table = constant i64 1'
 refuses "$shape" aarch64
