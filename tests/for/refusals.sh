@@ -69,6 +69,9 @@ changed '$a define internal <2 x i64> @two(<2 x i64> %a0) {\n  ret <2 x i64> %a0
 refuses "$shape" aarch64_be
 changed '$a declare void @llvm.x86.sse2.pause()'
 refuses "$shape" aarch64
+# A tag that is written wide, and not right behind its widening.
+changed '0,/^  store i32 (%r[0-9]+), (ptr %[ar][0-9]+, align 1)$/s//  %wide = add i32 \1, 0\n  store i32 %wide, \2/'
+refuses "$shape" aarch64_be
 
 # Exports: a narrow result and a narrow argument, an argument more, two words in one struct, a struct by
 # pointer where C has it on the stack; one that the header does not have, and one that it has otherwise.
