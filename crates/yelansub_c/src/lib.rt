@@ -1,4 +1,6 @@
 // The archive for a host in C or Rust: the calls of crate `yelansub` under the names that include/yelansub.h declares, each with the call's own contract.
+// What each contract rules out is said at the call, in crate `yelansub`; here, that an export calls another function or hands it other arguments
+// (must-fail/read_counter_0, must-fail/cards_and_counters_exchanged).
 #![tactic(auto)]
 
 ghost use Rattle.std.specs.Prelude.{◌≡◌};
