@@ -1,4 +1,5 @@
 pub mod LogWalkLaws
 pub mod OutcomeLaws
 pub mod PartExamples
+pub mod PartLaws
 pub mod RunningLaws

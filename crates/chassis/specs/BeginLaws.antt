@@ -1,18 +1,12 @@
--- LAWS. How a run begins: "sizes are right" over plain lengths, with products tested by a division; and the fresh replicas, written
--- one part after the other.
-use Prim.Native.Nat.{ℕ, suc, ◌+◌, ◌*◌, ◌/◌, ◌%◌, ◌≤◌, ◌<◌}
+-- LAWS. How a run begins: "sizes are right" over plain lengths; and the fresh replicas, written one part after the other.
+use Prim.Native.Nat.{ℕ, suc, ◌+◌, ◌*◌}
 use Rattle.std.specs.Prelude.{◌≡◌, refl, Bool, true, ◌&&◌, length, eqb}
-use Rattle.std.proofs.Common.{sym, ◌∙◌, suc-mul, arith, take_at, le-leb, lt-ltb, eq-eqb, ne_eqb}
+use Rattle.std.proofs.Common.{sym, suc-mul, take_at}
 use mathlib.Core.List.{List, ◌++◌, append_assoc}
-use Rattle.std.proofs.Math.Bool.{and-false}
-use Rattle.std.proofs.Math.Nat.{mul-div_cancel_left, mul-mod_right, div-add-mod}
 use Rattle.std.proofs.Math.Numerals.{add-one}
 use Rattle.std.proofs.Math.ListN.{drop}
 use Rattle.std.proofs.Math.Seq.{drop_at, drop-drop}
-use Rattle.protocol.specs.Limits.{most_cards, most_counters}
-use Rattle.protocol.proofs.Cases.{by_place}
 use Rattle.replica_model.specs.Layout.{replica_length, fresh_words}
-use Rattle.replica_model.specs.Calls.{sizes_in_range, replica_fits, open_on}
 use Rattle.replica_model.specs.ClaimTerms.{Sizes}
 use Rattle.replica_model.proofs.RowLaws.{sizes, tests}
 use Rattle.chassis_model.specs.ListParts.{put_part}
@@ -42,31 +36,7 @@ right_lengths r k L steps words logs answers right =
     let f = simp tests at right in
     record { sized = sizes r k f.0.0.0; words_fit = f.0.0.1; logs_fit = f.0.1; answers_fit = f.1 }
 
--- a product that may not fit a word, tested by a division
-pub product_test : (x n y : ℕ) → 1 ≤ n → eqb (x / n) y && eqb (x % n) 0 ≡ eqb x (n * y)
-product_test x n y some =
-    by_place x (n * y)
-    (λ e. rw (e, mul-div_cancel_left y some, mul-mod_right n y, eq-eqb y y refl, eq-eqb (n * y) (n * y) refl))
-    (λ d.
-    rw (ne_eqb x (n * y) d)
-    (by_place (x / n) y
-    (λ q. let left : x % n ≡ 0 → ⊥ = λ z. d (sym (div-add-mod x n) ∙ rw (q, z) (omega arith)) in rw (ne_eqb (x % n) 0 left, and-false))
-    (λ q. rw (ne_eqb (x / n) y q))))
-
 -- ---- fresh replicas
-
--- a card's part of the right length is written fresh
-pub opened : (r k own : ℕ) (b : List ℕ) → Sizes r k → own < r → length b ≡ replica_length r k → (open_on b r k own).words ≡ fresh_words r k own
-unfolding open_on replica_fits sizes_in_range
-opened r k own b sized inside long =
-    rw (
-      le-leb 1 r sized.some_cards,
-      le-leb r most_cards sized.few_cards,
-      le-leb 1 k sized.some_counters,
-      le-leb k most_counters sized.few_counters,
-      lt-ltb own r inside,
-      eq-eqb (length b) (replica_length r k) long,
-    )
 
 module _ (r k : ℕ) where
   -- the replicas of the first n cards are fresh, and the words behind them as they were: one card more

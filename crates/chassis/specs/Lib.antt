@@ -1,3 +1,5 @@
 pub mod BeginLaws
 pub mod PartOf
+pub mod SizesOf
+pub mod Started
 pub mod StepCodeLaws

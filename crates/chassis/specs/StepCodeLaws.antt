@@ -1,18 +1,21 @@
 -- LAWS. What the code of a step is given and what it has done, as records; and that what the code's parts do is the step.
-use Rattle.std.specs.Prelude.{ℕ, suc, ◌+◌, ◌*◌, ◌≤◌, ◌<◌, refl, ◌≢◌, Bool, not, cond, ◌&&◌, ltb, eqb, length, take, drop, set, get_or}
+use Rattle.std.specs.Prelude.{ℕ, Result, suc, ◌+◌, ◌*◌, ◌≤◌, ◌<◌, refl, ◌≢◌, Bool, not, cond, ◌&&◌, ltb, eqb, length, take, drop, set, get_or}
 use Rattle.std.proofs.Math.Path.{◌≡◌, sym, ap, subst}
-use Rattle.std.proofs.Common.{◌∙◌, arith, get_or-set_same, length-take-le, length-set, lt-ltb, ltb-true, le-ltb}
+use Rattle.std.proofs.Common.{◌∙◌, add-zero, arith, get_or-set_same, length-take-le, length-set, lt-ltb, le-ltb}
 use Rattle.std.proofs.Math.Bool.{true}
 use mathlib.Core.List.{List, [], ◌∷◌, ◌++◌}
+use Rattle.std.proofs.lemmas.List.{set-get_or}
 use Rattle.std.proofs.lemmas.List.Edits.{sets}
 use Rattle.protocol.specs.Limits.{most_cards, most_counters, short_output, bad_counter, bad_card, nothing_waiting, log_full, bad_amount}
+use Rattle.protocol.specs.Refusals.{number_of, number_in}
+use Rattle.protocol.specs.declared.Refusal.{Refusal}
 use Rattle.protocol.specs.Checks.{Check, or_else, checked, first_failing, Gives}
-use Rattle.protocol.proofs.ChecksLaws.{first_refuses, first_passes}
+use Rattle.protocol.proofs.ChecksLaws.{first_refuses}
 use Rattle.protocol.specs.RoundRobin.{IsLink}
 use Rattle.wire.specs.Message.{version_2, called_length}
 use Rattle.replica_model.specs.declared.Cleared.{Cleared}
-use Rattle.replica_model.specs.declared.Taken.{Taken}
 use Rattle.replica_model.specs.Layout.{replica_length}
+use Rattle.replica_model.specs.Told.{taken_answer}
 use Rattle.replica_model.specs.Calls.{ClearedOutcome, TakeOutcome, take_on}
 use Rattle.chassis_model.specs.ListParts.{part, put_part}
 use Rattle.chassis_model.specs.Log.{waiting_part}
@@ -24,7 +27,7 @@ use Rattle.chassis_model.specs.declared.Step.{Step}
 use Rattle.chassis_model.specs.declared.StepAnswer.{StepAnswer}
 pub use Rattle.chassis_model.specs.Run.{state_of}
 use Rattle.chassis_model.specs.Run.{call_of, State, Stepped, answered, answer_words, answer_length, N_at, made, delivered, declined, step_checks, performed, acted, step_on, state_after, answers_of}
-use Rattle.chassis_model.proofs.StepLaws.{is_link, link_test, performed_is, declined_is, link_passes}
+use Rattle.chassis_model.proofs.StepLaws.{link_test, performed_is, declined_is, link_passes}
 use Rattle.chassis_model.proofs.Places.{link_place, Reached, WaitsAt, free_place_is, place_inside, waits_at, made_reached, delivered_reached}
 use Rattle.chassis.specs.declared.Sizes.{Sizes}
 use Rattle.chassis.specs.declared.stepping.Handed.{Handed}
@@ -46,7 +49,7 @@ pub record HandReady (sizes : Sizes) (i s at : ℕ) (words logs : List ℕ) : Ty
 
 -- it was handed over
 pub record HandedOver (sizes : Sizes) (i s at : ℕ) (words logs : List ℕ) (handed : Handed) (words' : List ℕ) : Type 0 where
-  pub outcome : ◌≡◌ {A = Stepped} (record { answer = answered handed.number; state = state_of words' logs })
+  pub outcome : ◌≡◌ {A = Stepped} (record { answer = answered (number_in handed.taken); state = state_of words' logs })
       (delivered sizes.cards sizes.counters sizes.log_bytes i s (state_of words logs))
   pub behind : handed.behind ≡ at + called_length version_2 (drop at (part sizes.log_bytes logs s))
 
@@ -61,6 +64,10 @@ pub record StepDone (sizes : Sizes) (action : Action) (fits : Bool) (words logs 
       (acted sizes.cards sizes.counters sizes.log_bytes action fits (state_of words logs))
   pub given : StepReady sizes words' logs' places'
 
+-- no refusal has the number 0
+refusal_some : (e : Refusal) → number_of e ≢ 0
+refusal_some e = grind arith
+
 -- what a step that makes a message, and a delivery, has against itself before words and logs are looked at: the first of `step_checks`
 abbrev pub maker_own_checks : Sizes → ℕ → ℕ → Bool → List Check
 maker_own_checks sizes card counter fits =
@@ -70,33 +77,30 @@ abbrev pub link_own_checks : Sizes → ℕ → ℕ → Bool → List Check
 link_own_checks sizes receiver sender fits =
     or_else (ltb receiver sizes.cards && ltb sender sizes.cards && not (eqb receiver sender)) bad_card ∷ or_else fits bad_amount ∷ []
 
--- what they say where nothing fails
-pub maker_free : (sizes : Sizes) (card counter : ℕ) (fits : Bool) → first_failing (maker_own_checks sizes card counter fits) ≡ 0
-    → (card < sizes.cards) × (counter < sizes.counters) × (fits ≡ true)
-maker_free sizes card counter fits none =
-    let all = first_passes (maker_own_checks sizes card counter fits) refl none in (ltb-true _ _ all.0, ltb-true _ _ all.1.0, all.1.1.0)
+-- a call's answer in a step: a log is the step's output, so number 5 becomes 14
+abbrev pub in_step : Cleared → Cleared
+in_step sent = record {
+  number = cond (eqb sent.number short_output) log_full sent.number;
+  value = sent.value;
+  sequence = sent.sequence;
+  length = sent.length;
+}
 
-pub link_free : (sizes : Sizes) (receiver sender : ℕ) (fits : Bool) → first_failing (link_own_checks sizes receiver sender fits) ≡ 0
-    → IsLink sizes.cards receiver sender × (fits ≡ true)
-link_free sizes receiver sender fits none =
-    let all = first_passes (link_own_checks sizes receiver sender fits) refl none in (is_link _ _ _ all.0, all.1.0)
-
--- a call with the rest of a log as its output
+-- a step's call with the rest of a log as its output
 unfoldable pub appended : Making → ℕ → List ℕ → List ℕ → ℕ → ClearedOutcome
 appended making counter b log at =
     let done = call_of making counter b (drop at log) in
-    record { answer = done.answer; words = done.words; out = take at log ++ done.out }
+    record { answer = in_step done.answer; words = done.words; out = take at log ++ done.out }
 
--- step i is done: its answer stands in its words, and n is the next
-pub record StepAnswered (sizes : Sizes) (s : Step) (i : ℕ) (words logs answers words' logs' answers' places' : List ℕ) (n : ℕ) : Type 0 where
-  pub next : n ≡ i + 1
+-- step i is done: its answer stands in its words
+pub record StepAnswered (sizes : Sizes) (s : Step) (i : ℕ) (words logs answers words' logs' answers' places' : List ℕ) : Type 0 where
   pub given : StepReady sizes words' logs' places'
   pub state_is : state_of words' logs' ≡ (step_on sizes.cards sizes.counters sizes.log_bytes s (state_of words logs)).state
   pub answers_are : answers'
       ≡ sets answers (i * answer_length) (answer_words (step_on sizes.cards sizes.counters sizes.log_bytes s (state_of words logs)).answer)
 
-pub answers_long : {sizes : Sizes} {s : Step} {i : ℕ} {words logs answers words' logs' answers' places' : List ℕ} {n : ℕ}
-    → StepAnswered sizes s i words logs answers words' logs' answers' places' n → length answers' ≡ length answers
+pub answers_long : {sizes : Sizes} {s : Step} {i : ℕ} {words logs answers words' logs' answers' places' : List ℕ}
+    → StepAnswered sizes s i words logs answers words' logs' answers' places' → length answers' ≡ length answers
 answers_long done = ap length done.answers_are ∙ simp length-set
 
 -- all steps are done, from the first state on
@@ -127,10 +131,7 @@ module _ (sizes : Sizes) (words logs places : List ℕ) (g : StepReady sizes wor
       let m = g.reached.matches in
       record { few_cards = m.cards.sizes.few_cards; few_counters = m.cards.sizes.few_counters; replica_is = g.replica_is; long = rw g.replica_is m.words_fit }
 
-  -- the parts that are lent lie inside
-  pub words_room : (card : ℕ) → card < r → card * size + size ≤ length words
-  words_room card below = rw words_fit.long (part_room card r size below)
-
+  -- a card's log lies inside
   pub logs_room : (card : ℕ) → card < r → card * L + L ≤ length logs
   logs_room card below = rw g.reached.matches.logs_fit (part_room card r L below)
 
@@ -148,25 +149,28 @@ module _ (sizes : Sizes) (words logs places : List ℕ) (g : StepReady sizes wor
   pub declined_did : (a : Action) (fits : Bool) (n : ℕ) → n ≢ 0 → Gives (step_checks r k L a fits st) n → StepDone sizes a fits words logs (answered n) words logs places
   declined_did a fits n some gives = record { outcome = sym (declined_is r k L st a fits n some gives); given = g }
 
-  pub none_did : (i s : ℕ) → IsLink r i s → N_at r k L st s s ≤ N_at r k L st i s → StepDone sizes (Deliver i s) true words logs (answered nothing_waiting) words logs places
-  none_did i s is none = declined_did (Deliver i s) true nothing_waiting (λ e. omega arith) (link_test r i s is, (refl, le-ltb _ _ none))
+  -- what the sender has made, and what the receiver has had of it, are as the code reads them
+  pub none_did : (i s made had : ℕ) → IsLink r i s → made ≡ N_at r k L st s s → had ≡ N_at r k L st i s → made ≤ had
+      → StepDone sizes (Deliver i s) true words logs (answered nothing_waiting) words logs places
+  none_did i s made had is own his none =
+      declined_did (Deliver i s) true nothing_waiting (λ e. omega arith) (link_test r i s is, (refl, le-ltb _ _ (rw (← own, ← his) none)))
 
-  -- by the number that the code works out
-  pub maker_declined : (m : Making) (card counter : ℕ) (fits : Bool) (n : ℕ) → n ≡ first_failing (maker_own_checks sizes card counter fits) → n ≢ 0
-      → StepDone sizes (Make m card counter) fits words logs (answered n) words logs places
+  -- by the refusal that the code finds
+  pub maker_declined : (m : Making) (card counter : ℕ) (fits : Bool) (e : Refusal) → number_of e ≡ first_failing (maker_own_checks sizes card counter fits)
+      → StepDone sizes (Make m card counter) fits words logs (answered (number_of e)) words logs places
   unfolding acted
-  maker_declined m card counter fits n is some = record {
-    outcome = rw is (first_refuses (declined st) (performed r k L (Make m card counter) st) (maker_own_checks sizes card counter fits) (λ z. some (is ∙ z)));
+  maker_declined m card counter fits e is = record {
+    outcome = rw is (first_refuses (declined st) (performed r k L (Make m card counter) st) (maker_own_checks sizes card counter fits) (λ z. refusal_some e (is ∙ z)));
     given = g;
   }
 
-  pub link_declined : (i s : ℕ) (fits : Bool) (n : ℕ) → n ≡ first_failing (link_own_checks sizes i s fits) → n ≢ 0
-      → StepDone sizes (Deliver i s) fits words logs (answered n) words logs places
+  pub link_declined : (i s : ℕ) (fits : Bool) (e : Refusal) → number_of e ≡ first_failing (link_own_checks sizes i s fits)
+      → StepDone sizes (Deliver i s) fits words logs (answered (number_of e)) words logs places
   unfolding acted
-  link_declined i s fits n is some = record {
+  link_declined i s fits e is = record {
     outcome =
         let waits : List Check = or_else (ltb (N_at r k L st i s) (N_at r k L st s s)) nothing_waiting ∷ [] in
-        rw is (first_refuses (declined st) (checked (declined st) waits (performed r k L (Deliver i s) st)) (link_own_checks sizes i s fits) (λ z. some (is ∙ z)));
+        rw is (first_refuses (declined st) (checked (declined st) waits (performed r k L (Deliver i s) st)) (link_own_checks sizes i s fits) (λ z. refusal_some e (is ∙ z)));
     given = g;
   }
 
@@ -174,15 +178,16 @@ module _ (sizes : Sizes) (words logs places : List ℕ) (g : StepReady sizes wor
 
   module _ (m : Making) (card counter at : ℕ) (sent : Cleared) (b log : List ℕ) (below : card < r) (there : counter < k) (here : at ≡ get_or places (link_place card card) 0)
       (done : ◌≡◌ {A = ClearedOutcome} (record { answer = sent; words = b; out = log }) (appended m counter (part size words card) (part L logs card) at)) where
-    pub made_did : (a : StepAnswer) → a ≡ record { number = cond (eqb sent.number short_output) log_full sent.number; value = sent.value }
-        → StepDone sizes (Make m card counter) true words logs a (put_part size card b words) (put_part L card log logs) (set places (link_place card card) (at + sent.length))
+    pub made_did : StepDone sizes (Make m card counter) true words logs (record { number = sent.number; value = sent.value }) (put_part size card b words) (put_part L card log logs)
+        (set places (link_place card card) (at + sent.length))
     unfolding made appended
-    made_did a number =
+    made_did =
         let call : ClearedOutcome = call_of m counter (part (replica_length r k) words card) (drop (get_or places (link_place card card) 0) (part L logs card)) in
         let now_done = rw (here, g.replica_is) at done in
-        let answer_is : sent ≡ call.answer = ap (λ o. o.answer) now_done in
-        let outcome : ◌≡◌ {A = Stepped} (record { answer = a; state = state_of (put_part size card b words) (put_part L card log logs) }) (made r k L card (call_of m counter) st)
-        = rw (number, answer_is, ap (λ o. o.words) now_done, ap (λ o. o.out) now_done, g.replica_is, free_place_is r k L st places g.reached card below) in
+        let answer_is : sent ≡ in_step call.answer = ap (λ o. o.answer) now_done in
+        let outcome : ◌≡◌ {A = Stepped} (record { answer = record { number = sent.number; value = sent.value }; state = state_of (put_part size card b words) (put_part L card log logs) })
+        (made r k L card (call_of m counter) st)
+        = rw (answer_is, ap (λ o. o.words) now_done, ap (λ o. o.out) now_done, g.replica_is, free_place_is r k L st places g.reached card below) in
         record {
           outcome = outcome ∙ sym (performed_is r k L st (Make m card counter) true (lt-ltb card r below, (lt-ltb counter k there, (refl, tt))));
           given = record {
@@ -193,49 +198,56 @@ module _ (sizes : Sizes) (words logs places : List ℕ) (g : StepReady sizes wor
           };
         }
 
+    -- a refusal moves no place
+    pub refused_did : sent.length ≡ 0
+        → StepDone sizes (Make m card counter) true words logs (record { number = sent.number; value = sent.value }) (put_part size card b words) (put_part L card log logs) places
+    refused_did none =
+        let same : set places (link_place card card) (at + sent.length) ≡ places = rw (none, here, add-zero, set-get_or) in
+        rw same at made_did
+
     -- the place it leaves lies inside the log
     pub made_place : at + sent.length ≤ L
     made_place =
-        let did = made_did _ refl in
+        let did = made_did in
         let few = card_few card below in
         let inside : link_place card card < length places = omega (arith, g.reached.places_are.size) in
         rw (get_or-set_same places (link_place card card) (at + sent.length) 0 inside) at (place_inside r k L _ _ did.given.reached card card below below)
 
   -- ---- a message handed over
 
-  pub hand_ready : (i s : ℕ) → IsLink r i s → N_at r k L st i s < N_at r k L st s s → HandReady sizes i s (get_or places (link_place i s) 0) words logs
-  hand_ready i s (hi, hs, apart) waits = record {
-    words_fit = words_fit;
-    logs_long = g.reached.matches.logs_fit;
-    receiver = hi;
-    sender = hs;
-    stands = waits_at r k L st places g.reached i s hi hs waits;
-  }
+  module _ (i s made had : ℕ) (is : IsLink r i s) (own : made ≡ N_at r k L st s s) (his : had ≡ N_at r k L st i s) (more : had < made) where
+    waits : N_at r k L st i s < N_at r k L st s s
+    waits = rw (← own, ← his) more
 
-  pub delivered_did : (i s : ℕ) (handed : Handed) (b : List ℕ) → IsLink r i s → N_at r k L st i s < N_at r k L st s s
-      → HandedOver sizes i s (get_or places (link_place i s) 0) words logs handed b
-      → StepDone sizes (Deliver i s) true words logs (answered handed.number) b logs (set places (link_place i s) handed.behind)
-  delivered_did i s handed b (hi, hs, apart) waits done = record {
-    outcome = done.outcome ∙ sym (performed_is r k L st (Deliver i s) true (link_passes r k L st i s true refl (hi, hs, apart) waits));
-    given = record {
-      replica_is = g.replica_is;
-      reached =
-          rw done.behind
-          (subst (λ (x : Stepped). Reached r k L x.state (set places (link_place i s) (get_or places (link_place i s) 0 + called_length version_2 (drop (get_or places (link_place i s) 0) (part L logs s)))))
-          (sym done.outcome) (delivered_reached r k L st places g.reached i s hi hs apart waits));
-    };
-  }
+    pub hand_ready : HandReady sizes i s (get_or places (link_place i s) 0) words logs
+    hand_ready = record {
+      words_fit = words_fit;
+      logs_long = g.reached.matches.logs_fit;
+      receiver = is.0;
+      sender = is.1;
+      stands = waits_at r k L st places g.reached i s is.0 is.1 waits;
+    }
+
+    pub delivered_did : (handed : Handed) (b : List ℕ) → HandedOver sizes i s (get_or places (link_place i s) 0) words logs handed b
+        → StepDone sizes (Deliver i s) true words logs (answered (number_in handed.taken)) b logs (set places (link_place i s) handed.behind)
+    delivered_did handed b done = record {
+      outcome = done.outcome ∙ sym (performed_is r k L st (Deliver i s) true (link_passes r k L st i s true refl is waits));
+      given = record {
+        replica_is = g.replica_is;
+        reached =
+            rw done.behind
+            (subst (λ (x : Stepped). Reached r k L x.state (set places (link_place i s) (get_or places (link_place i s) 0 + called_length version_2 (drop (get_or places (link_place i s) 0) (part L logs s)))))
+            (sym done.outcome) (delivered_reached r k L st places g.reached i s is.0 is.1 is.2 waits));
+      };
+    }
 
 -- ---- take of the message that stands there
 
+taken_number : (taken : Result ℕ Refusal) → (taken_answer taken).number ≡ number_in taken
+taken_number (Result.Ok sequence) = refl
+taken_number (Result.Err refusal) = refl
+
 module _ (sizes : Sizes) (i s at : ℕ) (words logs : List ℕ) (h : HandReady sizes i s at words logs) where
-  -- the parts that are lent lie inside
-  pub replica_end : i * sizes.replica_words + sizes.replica_words ≤ length words
-  replica_end = rw h.words_fit.long (part_room i sizes.cards sizes.replica_words h.receiver)
-
-  pub log_end : s * sizes.log_bytes + sizes.log_bytes ≤ length logs
-  log_end = rw h.logs_long (part_room s sizes.cards sizes.log_bytes h.sender)
-
   pub log_is_long : length (part sizes.log_bytes logs s) ≡ sizes.log_bytes
   log_is_long = part_length sizes.cards sizes.log_bytes s logs h.logs_long h.sender
 
@@ -243,13 +255,14 @@ module _ (sizes : Sizes) (i s at : ℕ) (words logs : List ℕ) (h : HandReady s
     pub message_long : length message ≡ called_length version_2 (drop at (part sizes.log_bytes logs s))
     message_long = rw here (length-take-le _ _ h.stands.room)
 
-    pub handed_over : (taken : Taken) (b : List ℕ) → ◌≡◌ {A = TakeOutcome} (record { answer = taken; words = b }) (take_on (part sizes.replica_words words i) message)
-        → HandedOver sizes i s at words logs (record { number = taken.number; behind = at + length message }) (put_part sizes.replica_words i b words)
+    pub handed_over : (taken : Result ℕ Refusal) (b : List ℕ)
+        → ◌≡◌ {A = TakeOutcome} (record { answer = taken_answer taken; words = b }) (take_on (part sizes.replica_words words i) message)
+        → HandedOver sizes i s at words logs (record { taken = taken; behind = at + length message }) (put_part sizes.replica_words i b words)
     unfolding delivered
     handed_over taken b done = record {
       outcome =
           let waiting : message ≡ waiting_part (suc (N_at sizes.cards sizes.counters sizes.log_bytes (state_of words logs) i s)) (part sizes.log_bytes logs s)
           = here ∙ sym h.stands.waits in
-          rw (← waiting, ← h.words_fit.replica_is, ← done);
+          rw (← waiting, ← h.words_fit.replica_is, ← done, taken_number taken);
       behind = rw message_long;
     }

@@ -15,18 +15,18 @@ fn is_product(x: u64, n: u64, y: u64) -> bool
     requires { 1 ≤ n }
     ensures { result ≡ eqb x (n * y) }
 {
-    (x / n == y) & (x % n == 0)
+    x / n == y && x % n == 0
 }
 
 // Number 11's test, but for the answers, over the lengths of what the caller lends: r, k and the capacity of a log are any words.
 pub fn is_chassis(r: u64, k: u64, log_bytes: u64, words: usize, logs: usize) -> bool
     ensures { result ≡ chassis_fits r k log_bytes words logs }
 {
-    if words::are_sizes_in_range(r, k) {
-        let needed = r as usize * words::replica_words(r as usize, k as usize);
-        return (words == needed) & is_product(logs as u64, r, log_bytes);
+    if !words::are_sizes_in_range(r, k) {
+        return false;
     }
-    false
+    let needed = r as usize * words::replica_words(r as usize, k as usize);
+    words == needed && is_product(logs as u64, r, log_bytes)
 }
 
 // Number 11's test for a run.
@@ -41,8 +41,8 @@ pub fn sizes_are_right(
 ) -> bool
     ensures { result ≡ lengths_right r k log_bytes steps words logs answers }
 {
-    let chassis = is_chassis(r, k, log_bytes, words, logs);
-    chassis & is_product(answers as u64, stepping::ANSWER_WORDS as u64, steps as u64)
+    is_chassis(r, k, log_bytes, words, logs)
+        && is_product(answers as u64, stepping::ANSWER_WORDS as u64, steps as u64)
 }
 
 fn fresh_card(words: &mut [u64], r: usize, k: usize, card: usize)
@@ -51,8 +51,7 @@ fn fresh_card(words: &mut [u64], r: usize, k: usize, card: usize)
 {
     let size = words::replica_words(r, k);
     let at = card * size;
-    let end = at + size;
-    open::open(&mut words[at..end], r as u64, k as u64, card as u64);
+    open::write_fresh(&mut words[at..at + size], r as u64, k as u64, card as u64);
 }
 
 // Every replica fresh, whatever the words were.
@@ -60,9 +59,7 @@ pub fn fresh_all(words: &mut [u64], r: usize, k: usize)
     requires { Sizes r k × (length words.old ≡ r * replica_length r k) }
     ensures { words.new ≡ fresh_replicas r k r }
 {
-    let mut card: usize = 0;
-    while card < r {
+    for card in 0..r {
         fresh_card(words, r, k, card);
-        card += 1;
     }
 }

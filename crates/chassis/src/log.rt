@@ -1,24 +1,27 @@
 // A card's log: its messages one after the other, walked from the front.
-ghost use Rattle.std.specs.Prelude.{◌≡◌};
+ghost use Rattle.std.specs.Prelude.{◌≡◌, MatchOption};
 ghost use Rattle.chassis_model.specs.Log.{span_at, waiting_part, waiting_span};
 ghost use Rattle.chassis.specs.PartOf.{PartOf};
 
 use chassis_model::Span;
 use wire::decode;
 
-fn span(start: usize, length: usize) -> Span
-    ensures { result ≡ span_at start length }
+// Where message number `q` stands, if the log begins with that many messages.
+fn place(log: &[u8], q: u64) -> Option<Span>
+    ensures { MatchOption result (waiting_span q log.now ≡ span_at 0 0) (λ found. waiting_span q log.now ≡ found) }
 {
-    if length == 0 {
-        return Span {
-            start: 0,
-            length: 0,
-        };
+    if q == 0 {
+        return None;
     }
-    Span {
-        start: start as u64,
+    let mut at = 0;
+    for _ in 1..q {
+        at += decode::front_length(&log[at..], wire::VERSION_2)?;
+    }
+    let length = decode::front_length(&log[at..], wire::VERSION_2)?;
+    Some(Span {
+        start: at as u64,
         length: length as u64,
-    }
+    })
 }
 
 // Where message number `q` stands in the log, for hosts that take no part of a slice; 0 and 0 stand for "No message waiting".
@@ -27,21 +30,10 @@ fn span(start: usize, length: usize) -> Span
 pub fn waiting_span(log: &[u8], q: u64) -> Span
     ensures { result ≡ waiting_span q log.now }
 {
-    let mut at: usize = 0;
-    let mut left = q;
-    while 1 < left {
-        let length = decode::front_length(&log[at..], wire::VERSION_2);
-        if length == 0 {
-            return span(at, 0);
-        }
-        at += length;
-        left -= 1;
-    }
-    if left == 0 {
-        return span(at, 0);
-    }
-    let length = decode::front_length(&log[at..], wire::VERSION_2);
-    span(at, length)
+    place(log, q).unwrap_or(Span {
+        start: 0,
+        length: 0,
+    })
 }
 
 // Hands out the part of the log where message number `q` stands, not a copy; an empty part, at the log's front, stands

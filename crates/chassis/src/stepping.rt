@@ -6,7 +6,10 @@ ghost use Rattle.protocol.specs.Checks.{first_failing};
 ghost use Rattle.protocol.specs.RoundRobin.{IsLink};
 ghost use Rattle.wire.specs.Message.{version_2, clear_length, called_length};
 ghost use Rattle.replica_model.specs.Calls.{ClearedOutcome};
-ghost use Rattle.chassis_model.specs.Run.{action_of, amount_fits, call_of, N_at, answered, answer_words, answer_length};
+ghost use Rattle.chassis_model.specs.Run.{action_of, amount_fits, call_of, N_at, answer_words, answer_length};
+ghost use Rattle.chassis_model.specs.Told.{step_answer};
+ghost use Rattle.protocol.specs.Refusals.{number_of, number_in};
+ghost use Rattle.replica_model.specs.Told.{cleared_answer};
 ghost use Rattle.chassis_model.proofs.Places.{link_place, links};
 ghost use Rattle.chassis.specs.PartOf.{PartOf};
 ghost use Rattle.chassis.specs.StepCodeLaws.{WordsFit, state_of, HandReady, HandedOver, StepReady, StepDone, appended, StepAnswered, maker_own_checks, link_own_checks};
@@ -14,7 +17,8 @@ ghost use Rattle.chassis.specs.StepCodeLaws.{WordsFit, state_of, HandReady, Hand
 use crate::Sizes;
 use chassis_model::{Action, Making, Step, StepAnswer};
 use layout::words;
-use replica_model::Cleared;
+use protocol::Refusal;
+use replica_model::Made;
 use sending::{clearing, counting};
 use taking::take;
 use wire::decode;
@@ -30,8 +34,6 @@ const READ_AND_CLEAR: u32 = 4;
 // How many words a step's answer takes.
 pub const ANSWER_WORDS: usize = 2;
 
-const VALUE_AT: usize = 1;
-
 // The limit as an index.
 pub const MOST_CARDS: usize = protocol::MOST_CARDS as usize;
 
@@ -42,34 +44,20 @@ pub const LINKS: usize = MOST_CARDS * MOST_CARDS;
 fn action_of(s: Step) -> Action
     ensures { result ≡ action_of s }
 {
-    let kind = s.kind;
-    if kind == COUNT {
-        return Action::Make(Making::Count(s.amount), s.first, s.second);
+    match s.kind {
+        COUNT => Action::Make(Making::Count(s.amount), s.first, s.second),
+        CLEAR => Action::Make(Making::Clear, s.first, s.second),
+        DELIVER => Action::Deliver(s.first, s.second),
+        READ_AND_CLEAR => Action::Make(Making::ReadAndClear, s.first, s.second),
+        _ => Action::Nothing,
     }
-    if kind == CLEAR {
-        return Action::Make(Making::Clear, s.first, s.second);
-    }
-    if kind == DELIVER {
-        return Action::Deliver(s.first, s.second);
-    }
-    if kind == READ_AND_CLEAR {
-        return Action::Make(Making::ReadAndClear, s.first, s.second);
-    }
-    Action::Nothing
 }
 
 // Is it a step that counts, or one without an amount?
 fn does_amount_fit(s: Step) -> bool
     ensures { result ≡ amount_fits s }
 {
-    (s.kind == COUNT) | (s.amount == 0)
-}
-
-// A step's answer that is a number and no value.
-fn answered(number: u64) -> StepAnswer
-    ensures { result ≡ answered number }
-{
-    StepAnswer { number, value: 0 }
+    s.kind == COUNT || s.amount == 0
 }
 
 // Lays the answer of step i into its words.
@@ -79,7 +67,7 @@ fn lay(answer: StepAnswer, i: usize, answers: &mut [u64])
 {
     let at = i * ANSWER_WORDS;
     answers[at] = answer.number;
-    answers[at + VALUE_AT] = answer.value;
+    answers[at + 1] = answer.value;
 }
 
 // Where the place of a link is kept.
@@ -91,32 +79,41 @@ pub fn link(receiver: usize, sender: usize) -> usize
 }
 
 // The message, and the value that is read: 0 for a count and a clear.
-fn send(making: Making, replica: &mut [u64], counter: u64, out: &mut [u8]) -> Cleared
-    ensures { ◌≡◌ {A = ClearedOutcome} (record { answer = result; words = replica.new; out = out.new }) (call_of making counter replica.old out.old) }
+fn send(making: Making, replica: &mut [u64], counter: u64, out: &mut [u8]) -> Result<Made, Refusal>
+    ensures { ◌≡◌ {A = ClearedOutcome} (record { answer = cleared_answer result; words = replica.new; out = out.new }) (call_of making counter replica.old out.old) }
 {
     match making {
-        Making::Count(amount) => counting::count_beside(replica, counter, amount as u64, out),
-        Making::Clear => clearing::beside(0, clearing::clear(replica, counter, out)),
-        Making::ReadAndClear => clearing::read_and_clear(replica, counter, out),
+        Making::Count(amount) => counting::count(replica, counter, u64::from(amount), out),
+        Making::Clear => {
+            let made = clearing::clear(replica, counter, out)?;
+            Ok(Made { value: 0, ..made })
+        }
+        Making::ReadAndClear => clearing::clear(replica, counter, out),
+    }
+}
+
+// A log is a step's output, so `ShortOutput` becomes `LogFull`.
+fn step_refusal(refusal: Refusal) -> Refusal
+    ensures { number_of result ≡ cond (eqb (number_of refusal) short_output) log_full (number_of refusal) }
+{
+    match refusal {
+        Refusal::ShortOutput => Refusal::LogFull,
+        other => other,
     }
 }
 
 // The message goes to the log from `at` on.
-fn append(making: Making, replica: &mut [u64], counter: u64, log: &mut [u8], at: usize) -> Cleared
+fn append(
+    making: Making,
+    replica: &mut [u64],
+    counter: u64,
+    log: &mut [u8],
+    at: usize,
+) -> Result<Made, Refusal>
     requires { at ≤ length log.old }
-    ensures { ◌≡◌ {A = ClearedOutcome} (record { answer = result; words = replica.new; out = log.new }) (appended making counter replica.old log.old at) }
+    ensures { ◌≡◌ {A = ClearedOutcome} (record { answer = cleared_answer result; words = replica.new; out = log.new }) (appended making counter replica.old log.old at) }
 {
-    send(making, replica, counter, &mut log[at..])
-}
-
-// A log is a step's output, so number 5 becomes 14.
-fn step_number(number: u64) -> u64
-    ensures { result ≡ cond (eqb number short_output) log_full number }
-{
-    if number == protocol::SHORT_OUTPUT {
-        return protocol::LOG_FULL;
-    }
-    number
+    send(making, replica, counter, &mut log[at..]).map_err(step_refusal)
 }
 
 // A message made by a card that is there: its own parts of the words and of the logs are lent to the call.
@@ -128,28 +125,21 @@ fn make(
     words: &mut [u64],
     logs: &mut [u8],
     places: &mut [u64; LINKS],
-) -> StepAnswer
+) -> Result<u64, Refusal>
     requires { StepReady sizes words.old logs.old places.old × (card < sizes.cards) × (counter < sizes.counters) }
-    ensures { StepDone sizes (Action.Make making card counter) true words.old logs.old result words.new logs.new places.new }
+    ensures { StepDone sizes (Action.Make making card counter) true words.old logs.old (step_answer result) words.new logs.new places.new }
 {
     let own = link(card, card);
     let at = places[own];
-    let from = card * sizes.replica_words;
-    let to = from + sizes.replica_words;
-    let start = card * sizes.log_bytes;
-    let end = start + sizes.log_bytes;
-    let sent = append(
+    let made = append(
         making,
-        &mut words[from..to],
+        &mut words[sizes.replica(card)],
         counter,
-        &mut logs[start..end],
+        &mut logs[sizes.log(card)],
         at as usize,
-    );
-    places[own] = at + sent.length;
-    StepAnswer {
-        number: step_number(sent.number),
-        value: sent.value,
-    }
+    )?;
+    places[own] = at + made.length;
+    Ok(made.value)
 }
 
 // N of `sender` in the replica of card `card`.
@@ -157,10 +147,7 @@ pub fn received(sizes: Sizes, words: &[u64], card: usize, sender: usize) -> u64
     requires { WordsFit sizes words.now × (card < sizes.cards) × (sender < sizes.cards) }
     ensures { (logs : List ℕ) → result ≡ N_at sizes.cards sizes.counters sizes.log_bytes (state_of words.now logs) card sender }
 {
-    let from = card * sizes.replica_words;
-    let to = from + sizes.replica_words;
-    let cards = sizes.cards;
-    words::messages_at(&words[from..to], cards, sender)
+    words::messages_at(&words[sizes.replica(card)], sizes.cards, sender)
 }
 
 // The message that stands in a log from `at` on, as that part of the log.
@@ -173,10 +160,10 @@ fn next_message(log: &[u8], at: usize) -> &[u8]
     &rest[..length]
 }
 
-// What take answered to a message that was handed over, and the place behind that message.
+// What take gave for a message that was handed over, and the place behind that message.
 #[derive(Clone, Copy)]
 pub struct Handed {
-    pub number: u64,
+    pub taken: Result<u64, Refusal>,
     pub behind: u64,
 }
 
@@ -193,14 +180,9 @@ pub fn hand_over(
     requires { HandReady sizes receiver sender at words.old logs.now }
     ensures { HandedOver sizes receiver sender at words.old logs.now result words.new }
 {
-    let start = sender * sizes.log_bytes;
-    let end = start + sizes.log_bytes;
-    let message = next_message(&logs[start..end], at as usize);
-    let from = receiver * sizes.replica_words;
-    let to = from + sizes.replica_words;
-    let taken = take::take(&mut words[from..to], message);
+    let message = next_message(&logs[sizes.log(sender)], at as usize);
     Handed {
-        number: taken.number,
+        taken: take::take(&mut words[sizes.replica(receiver)], message),
         behind: at + message.len() as u64,
     }
 }
@@ -213,102 +195,93 @@ fn deliver(
     words: &mut [u64],
     logs: &[u8],
     places: &mut [u64; LINKS],
-) -> StepAnswer
+) -> Result<u64, Refusal>
     requires { StepReady sizes words.old logs.now places.old × IsLink sizes.cards receiver sender }
-    ensures { StepDone sizes (Action.Deliver receiver sender) true words.old logs.now result words.new logs.now places.new }
+    ensures { StepDone sizes (Action.Deliver receiver sender) true words.old logs.now (step_answer result) words.new logs.now places.new }
 {
     let made = received(sizes, words, sender, sender);
     let had = received(sizes, words, receiver, sender);
     if made <= had {
-        return answered(protocol::NOTHING_WAITING);
+        return Err(Refusal::NothingWaiting);
     }
     let which = link(receiver, sender);
     let at = places[which];
     let handed = hand_over(sizes, receiver, sender, at, words, logs);
     places[which] = handed.behind;
-    answered(handed.number)
+    handed.taken?;
+    Ok(0)
 }
 
-// What a step that makes a message has against itself, 0 where nothing.
-fn maker_refusal(sizes: Sizes, card: usize, counter: usize, fits: bool) -> u64
-    ensures { result ≡ first_failing (maker_own_checks sizes card counter fits) }
+// What a step that makes a message has against itself.
+fn check_maker(sizes: Sizes, card: usize, counter: usize, fits: bool) -> Result<(), Refusal>
+    ensures { number_in result ≡ first_failing (maker_own_checks sizes card counter fits) }
 {
     if sizes.cards <= card {
-        return protocol::BAD_CARD;
+        return Err(Refusal::BadCard);
     }
     if sizes.counters <= counter {
-        return protocol::BAD_COUNTER;
+        return Err(Refusal::BadCounter);
     }
     if !fits {
-        return protocol::BAD_AMOUNT;
+        return Err(Refusal::BadAmount);
     }
-    0
+    Ok(())
 }
 
 // Likewise of a delivery, before it is known whether one waits.
-fn link_refusal(sizes: Sizes, receiver: usize, sender: usize, fits: bool) -> u64
-    ensures { result ≡ first_failing (link_own_checks sizes receiver sender fits) }
+fn check_link(sizes: Sizes, receiver: usize, sender: usize, fits: bool) -> Result<(), Refusal>
+    ensures { number_in result ≡ first_failing (link_own_checks sizes receiver sender fits) }
 {
-    if !((receiver < sizes.cards) & (sender < sizes.cards) & (receiver != sender)) {
-        return protocol::BAD_CARD;
+    if sizes.cards <= receiver || sizes.cards <= sender || receiver == sender {
+        return Err(Refusal::BadCard);
     }
     if !fits {
-        return protocol::BAD_AMOUNT;
+        return Err(Refusal::BadAmount);
     }
-    0
+    Ok(())
 }
 
-// One step, whatever its numbers.
+// One step, whatever its numbers: the value that it reads, 0 where it reads none.
 fn step(
     sizes: Sizes,
     s: Step,
     words: &mut [u64],
     logs: &mut [u8],
     places: &mut [u64; LINKS],
-) -> StepAnswer
+) -> Result<u64, Refusal>
     requires { StepReady sizes words.old logs.old places.old }
-    ensures { StepDone sizes (action_of s) (amount_fits s) words.old logs.old result words.new logs.new places.new }
+    ensures { StepDone sizes (action_of s) (amount_fits s) words.old logs.old (step_answer result) words.new logs.new places.new }
 {
     let fits = does_amount_fit(s);
     match action_of(s) {
         Action::Make(making, card, counter) => {
             let card = card as usize;
-            let counter = counter as usize;
-            let number = maker_refusal(sizes, card, counter, fits);
-            if number == 0 {
-                make(sizes, making, card, counter as u64, words, logs, places)
-            } else {
-                answered(number)
-            }
+            check_maker(sizes, card, counter as usize, fits)?;
+            make(sizes, making, card, u64::from(counter), words, logs, places)
         }
         Action::Deliver(receiver, sender) => {
             let receiver = receiver as usize;
             let sender = sender as usize;
-            let number = link_refusal(sizes, receiver, sender, fits);
-            if number == 0 {
-                deliver(sizes, receiver, sender, words, logs, places)
-            } else {
-                answered(number)
-            }
+            check_link(sizes, receiver, sender, fits)?;
+            deliver(sizes, receiver, sender, words, logs, places)
         }
-        Action::Nothing => answered(protocol::BAD_KIND),
+        Action::Nothing => Err(Refusal::BadKind),
     }
 }
 
-// Step i of a run, with its answer in its words. Returns the next step's number.
-pub fn answer_step<'a>(
+// Step i of a run, with its answer in its words.
+pub fn answer_step(
     sizes: Sizes,
     s: Step,
     i: usize,
-    words: &'a mut [u64],
-    logs: &'a mut [u8],
-    answers: &'a mut [u64],
-    places: &'a mut [u64; LINKS],
-) -> usize
+    words: &mut [u64],
+    logs: &mut [u8],
+    answers: &mut [u64],
+    places: &mut [u64; LINKS],
+)
     requires { StepReady sizes words.old logs.old places.old × (i * answer_length + answer_length ≤ length answers.old) }
-    ensures { StepAnswered sizes s i words.old logs.old answers.old words.new logs.new answers.new places.new result }
+    ensures { StepAnswered sizes s i words.old logs.old answers.old words.new logs.new answers.new places.new }
 {
-    let answer = step(sizes, s, words, logs, places);
+    let answer = step(sizes, s, words, logs, places).into();
     lay(answer, i, answers);
-    i + 1
 }

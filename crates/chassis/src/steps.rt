@@ -3,7 +3,7 @@ ghost use Rattle.std.specs.Prelude.{◌≡◌, ◌+◌, ◌≤◌, length};
 ghost use Rattle.chassis_model.specs.Run.{step_at, step_length};
 
 use chassis_model::Step;
-use wire::number;
+use wire::number::Unsigned;
 
 pub const STEP_BYTES: usize = 16;
 
@@ -18,9 +18,9 @@ pub(crate) fn step_from(bytes: &[u8], at: usize) -> Step
     ensures { result ≡ step_at bytes.now at }
 {
     Step {
-        kind: number::read_u32(bytes, at),
-        first: number::read_u32(bytes, at + FIRST_AT),
-        second: number::read_u32(bytes, at + SECOND_AT),
-        amount: number::read_u32(bytes, at + AMOUNT_AT),
+        kind: u32::read(bytes, at),
+        first: u32::read(bytes, at + FIRST_AT),
+        second: u32::read(bytes, at + SECOND_AT),
+        amount: u32::read(bytes, at + AMOUNT_AT),
     }
 }

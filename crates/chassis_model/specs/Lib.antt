@@ -7,6 +7,7 @@ pub mod Log
 pub mod Run
 pub mod Ledger
 pub mod Answers
+pub mod Told
 pub mod Driver
 pub mod Alone
 pub mod ReadAndClearOf

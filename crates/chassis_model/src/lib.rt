@@ -1,6 +1,11 @@
-// What a chassis of several cards joined by logs is and what a run of steps does. The crate holds definitions and claims (specs/) and no
-// function; the types stand here so that the definitions' and the code's are the same.
+// What a chassis of several cards joined by logs is and what a run of steps does: definitions and claims (specs/). The types stand here so that the definitions'
+// and the code's are the same.
 #![tactic(auto)]
+
+ghost use Rattle.std.specs.Prelude.{◌≡◌};
+ghost use Rattle.chassis_model.specs.Told.{step_answer, delivered_answer};
+
+use protocol::Refusal;
 
 // One step of a run: 1 count (card, counter), 2 clear (card, counter), 3 deliver (receiver, sender), 4 read and clear (card, counter). A count
 // has its amount, the others have 0 there.
@@ -50,4 +55,35 @@ pub struct Delivered {
 pub struct Span {
     pub start: u64,
     pub length: u64,
+}
+
+impl From<Result<u64, Refusal>> for StepAnswer {
+    ghost from_gives = { λ outcome answer. answer ≡ step_answer outcome };
+
+    fn from(outcome: Result<u64, Refusal>) -> StepAnswer {
+        match outcome {
+            Ok(value) => StepAnswer { number: 0, value },
+            Err(refusal) => StepAnswer {
+                number: refusal.into(),
+                value: 0,
+            },
+        }
+    }
+}
+
+impl From<Result<u64, Refusal>> for Delivered {
+    ghost from_gives = { λ outcome answer. answer ≡ delivered_answer outcome };
+
+    fn from(outcome: Result<u64, Refusal>) -> Delivered {
+        match outcome {
+            Ok(deliveries) => Delivered {
+                number: 0,
+                deliveries,
+            },
+            Err(refusal) => Delivered {
+                number: refusal.into(),
+                deliveries: 0,
+            },
+        }
+    }
 }

@@ -1,60 +1,66 @@
--- LAWS. The two calls case by case, with the length of what is written as it is measured.
-use Rattle.std.specs.Prelude.{ℕ, ◌+◌, ◌*◌, ◌-◌, ◌≤◌, ◌<◌, ◌≡◌, Bool, true, false, List, length}
-use Rattle.std.proofs.Common.{sym, ◌∙◌, arith}
-use borrow.Author.Tests.{le-leb, lt-leb}
+-- LAWS. The two calls, once the log is measured.
+use Rattle.std.specs.Prelude.{ℕ, ◌+◌, ◌*◌, ◌-◌, ◌≡◌, true, false, List, [], ◌∷◌, Option, length, leb}
+use Rattle.std.proofs.Common.{arith}
 use Rattle.protocol.specs.Limits.{short_output, unreadable, above_one}
+use Rattle.protocol.specs.Checks.{or_else, checked}
+use Rattle.protocol.proofs.Cases.{by_test}
 use Rattle.wire.specs.Number.{Bytes, int_width}
-use Rattle.wire.specs.Message.{version_1, version_2, messages_in, is_log, WriteOutcome, write_declined, over}
-use Rattle.conversion.specs.Conversion.{converted, all_by_one, to_version_2_on, to_version_1_on}
+use Rattle.wire.specs.Message.{version_1, version_2, messages_in, is_log, WriteOutcome, write_declined}
+use Rattle.conversion.specs.Conversion.{converted, all_by_one, converted_into, to_version_2_on, to_version_1_on}
+use Rattle.conversion.specs.ClaimTerms.{increments}
 use Rattle.conversion.proofs.ConversionLaws.{length_converted_up, length_converted_down}
-use Rattle.converter.specs.MeasureLaws.{Measured}
+use Rattle.converter.specs.declared.measure.Found.{Found}
+use Rattle.converter.specs.MeasureLaws.{measured}
 
-module _ (s out : List ℕ) (found by_one : Bool) (count : ℕ) (h : Measured version_1 s found by_one count) where
-  pub up_unreadable : found ≡ false → write_declined unreadable out ≡ to_version_2_on s out
+-- the last check of both calls, and what they write
+abbrev pub converted_if_room : (from to : ℕ) → List ℕ → List ℕ → WriteOutcome
+converted_if_room from to s out =
+    checked (λ n. write_declined n out) (or_else (leb (length (converted from to s)) (length out)) short_output ∷ []) (converted_into from to s out)
+
+-- what was found is so of the log
+pub record Measured (version : ℕ) (s : List ℕ) (found : Found) : Type 0 where
+  pub log : is_log version s ≡ true
+  pub amounts : found.by_one ≡ all_by_one (messages_in version s)
+  pub counted : found.increments ≡ increments (messages_in version s)
+
+pub measured_log : (version : ℕ) (s : List ℕ) (found : Found) → Option.Some found ≡ measured version s → Measured version s found
+unfolding measured
+measured_log version s found e =
+    by_test (is_log version s)
+    (λ yes. let same = rw yes at e in record { log = yes; amounts = cc; counted = cc })
+    (λ no. let other = rw no at e in cc)
+
+pub measured_none : (version : ℕ) (s : List ℕ) → Option.None ≡ measured version s → is_log version s ≡ false
+unfolding measured
+measured_none version s e =
+    by_test (is_log version s)
+    (λ yes. let other = rw yes at e in cc)
+    (λ no. no)
+
+module _ (s out : List ℕ) where
+  pub up_unreadable : Option.None ≡ measured version_1 s → write_declined unreadable out ≡ to_version_2_on s out
   unfolding to_version_2_on
-  up_unreadable fails = rw (← h.right, fails)
+  up_unreadable none = rw (measured_none version_1 s none)
 
-  module _ (bytes : Bytes s) (yes : found ≡ true) where
-    pub up_log : is_log version_1 s ≡ true
-    up_log = sym h.right ∙ yes
-
-    pub up_long : length (converted version_1 version_2 s) ≡ length s + int_width * count
-    up_long = length_converted_up s bytes up_log ∙ rw (h.counted yes)
-
-    pub up_short : length out < length s + int_width * count → write_declined short_output out ≡ to_version_2_on s out
-    unfolding to_version_2_on
-    up_short short = rw (up_log, lt-leb (length (converted version_1 version_2 s)) (length out) (rw up_long short))
-
-    pub up_done : (last : List ℕ) → length s + int_width * count ≤ length out → last ≡ over (converted version_1 version_2 s) out
-        → ◌≡◌ {A = WriteOutcome} (record { answer = record { number = 0; length = length s + int_width * count }; out = last }) (to_version_2_on s out)
-    unfolding to_version_2_on
-    up_done last room is = rw (up_log, le-leb (length (converted version_1 version_2 s)) (length out) (rw up_long room), is, up_long)
-
-module _ (s out : List ℕ) (found by_one : Bool) (count : ℕ) (h : Measured version_2 s found by_one count) where
-  pub down_unreadable : found ≡ false → write_declined unreadable out ≡ to_version_1_on s out
+  pub down_unreadable : Option.None ≡ measured version_2 s → write_declined unreadable out ≡ to_version_1_on s out
   unfolding to_version_1_on
-  down_unreadable fails = rw (← h.right, fails)
+  down_unreadable none = rw (measured_none version_2 s none)
 
-  module _ (bytes : Bytes s) (yes : found ≡ true) where
-    pub down_log : is_log version_2 s ≡ true
-    down_log = sym h.right ∙ yes
+  module _ (found : Found) where
+    pub up_log : Option.Some found ≡ measured version_1 s → to_version_2_on s out ≡ converted_if_room version_1 version_2 s out
+    unfolding to_version_2_on
+    up_log is = rw (measured_log version_1 s found is).log
 
-    pub down_above_one : by_one ≡ false → write_declined above_one out ≡ to_version_1_on s out
+    pub up_long : Option.Some found ≡ measured version_1 s → Bytes s → length s + int_width * found.increments ≡ length (converted version_1 version_2 s)
+    up_long is bytes = let m = measured_log version_1 s found is in omega (arith, length_converted_up s bytes m.log, m.counted)
+
+    pub down_above_one : Option.Some found ≡ measured version_2 s → found.by_one ≡ false → write_declined above_one out ≡ to_version_1_on s out
     unfolding to_version_1_on
-    down_above_one fails = rw (down_log, ← (h.amounts yes), fails)
+    down_above_one is above = let m = measured_log version_2 s found is in rw (m.log, ← m.amounts, above)
 
-    pub down_long : length (converted version_2 version_1 s) ≡ length s - int_width * count
-    down_long = let long = length_converted_down s bytes down_log in omega (arith, long, h.counted yes)
+    pub down_log : Option.Some found ≡ measured version_2 s → found.by_one ≡ true → to_version_1_on s out ≡ converted_if_room version_2 version_1 s out
+    unfolding to_version_1_on
+    down_log is one = let m = measured_log version_2 s found is in rw (m.log, ← m.amounts, one)
 
-    module _ (one : by_one ≡ true) where
-      small : all_by_one (messages_in version_2 s) ≡ true
-      small = sym (h.amounts yes) ∙ one
-
-      pub down_short : length out < length s - int_width * count → write_declined short_output out ≡ to_version_1_on s out
-      unfolding to_version_1_on
-      down_short short = rw (down_log, small, lt-leb (length (converted version_2 version_1 s)) (length out) (rw down_long short))
-
-      pub down_done : (last : List ℕ) → length s - int_width * count ≤ length out → last ≡ over (converted version_2 version_1 s) out
-          → ◌≡◌ {A = WriteOutcome} (record { answer = record { number = 0; length = length s - int_width * count }; out = last }) (to_version_1_on s out)
-      unfolding to_version_1_on
-      down_done last room is = rw (down_log, small, le-leb (length (converted version_2 version_1 s)) (length out) (rw down_long room), is, down_long)
+    pub down_long : Option.Some found ≡ measured version_2 s → Bytes s → length s - int_width * found.increments ≡ length (converted version_2 version_1 s)
+    down_long is bytes = let m = measured_log version_2 s found is in omega (arith, length_converted_down s bytes m.log, m.counted)

@@ -1,5 +1,5 @@
 -- LAWS. The first message of a log, and the log that follows it.
-use Rattle.std.specs.Prelude.{ℕ, ◌+◌, ◌-◌, ◌≤◌, ◌<◌, ◌≡◌, refl, true, false, ◌&&◌, List, ◌++◌, take, drop, leb}
+use Rattle.std.specs.Prelude.{ℕ, ◌+◌, ◌-◌, ◌≤◌, ◌<◌, ◌≡◌, refl, true, false, ◌&&◌, Option, List, ◌++◌, take, drop, leb}
 use Rattle.std.proofs.Math.Path.{sym}
 use Rattle.std.proofs.Common.{◌∙◌, append-nil, drop_of_length-le, take_all, length-take-le}
 use native.Mathlib.Omega.{arith}
@@ -8,6 +8,7 @@ use borrow.Author.Tests.{eq-eqb, ne_eqb, eqb-true}
 use Rattle.protocol.proofs.Cases.{by_place, by_test, not_yes}
 use Rattle.wire.specs.Number.{Bytes}
 use Rattle.wire.specs.Message.{shortest_message, called_length, reads, front_length, log_bytes, messages_in, is_log}
+use Rattle.wire.specs.Told.{unless_0}
 use Rattle.wire.specs.Claims.{read_is_written}
 use Rattle.wire.specs.RoundTrips.{read_long}
 use Rattle.conversion.proofs.LogLaws.{bytes_take, front_there, messages_none, messages_next}
@@ -27,6 +28,19 @@ module _ (version : ℕ) (s : List ℕ) where
   unfolding log_bytes
   log_first log some none =
       let long : 0 ≡ length s = eqb-true 0 (length s) (rw (messages_none version s none) at log) in omega arith
+
+  -- a length of its own, or none
+  pub front_of : (n : ℕ) → Option.Some n ≡ unless_0 (front_length version s) → (n ≡ front_length version s) × (front_length version s ≡ 0 → ⊥)
+  front_of n e =
+      by_place (front_length version s) 0
+      (λ none. let other = rw (eq-eqb (front_length version s) 0 none) at e in cc)
+      (λ some. let same = rw (ne_eqb (front_length version s) 0 some) at e in (cc, some))
+
+  pub front_none : Option.None ≡ unless_0 (front_length version s) → front_length version s ≡ 0
+  front_none e =
+      by_place (front_length version s) 0
+      (λ none. none)
+      (λ some. let other = rw (ne_eqb (front_length version s) 0 some) at e in cc)
 
   -- bytes that do not begin with a message are no log
   pub no_log : 0 < length s → front_length version s ≡ 0 → is_log version s ≡ false

@@ -1,11 +1,10 @@
 -- LAWS. A log that is walked and measured, a message at a time.
-use Rattle.std.specs.Prelude.{ℕ, ◌+◌, ◌*◌, ◌≤◌, ◌<◌, ◌≡◌, refl, Bool, true, false, ◌&&◌, length, take, leb, eqb}
+use Rattle.std.specs.Prelude.{ℕ, ◌+◌, ◌*◌, ◌≤◌, ◌<◌, ◌≡◌, refl, Bool, true, ◌&&◌, cond, Option, length, take, drop, leb, eqb}
 use Rattle.std.proofs.Math.Path.{sym}
-use Rattle.std.proofs.Common.{◌∙◌, arith, length-drop, drop-drop}
+use Rattle.std.proofs.Common.{◌∙◌, arith, length-drop}
 use Rattle.std.proofs.Math.Bool.{and_assoc, and-true}
-use Rattle.std.proofs.lemmas.Bool.{false≢true}
 use mathlib.Core.List.{List, [], ◌∷◌}
-use Rattle.std.proofs.Math.ListN.{drop, drop_of_length-le}
+use Rattle.std.proofs.lemmas.List.{nil_from_length}
 use Rattle.protocol.proofs.Cases.{by_test}
 use Rattle.wire.specs.Number.{Bytes, int_width, int_at}
 use Rattle.wire.specs.declared.Message.{Message}
@@ -14,6 +13,7 @@ use Rattle.wire.specs.RoundTrips.{read_clear, read_increment}
 use Rattle.conversion.specs.Conversion.{all_by_one}
 use Rattle.conversion.specs.ClaimTerms.{one_if_increment, increments}
 use Rattle.conversion.proofs.LogLaws.{bytes_drop, front_there, messages_next}
+use Rattle.converter.specs.declared.measure.Found.{Found}
 use Rattle.converter.specs.FirstLaws.{first_long, no_log, log_rest}
 
 -- ---- one message
@@ -30,23 +30,22 @@ module _ (version : ℕ) (s : List ℕ) where
 
 -- ---- the log
 
--- what is found of a log: the amounts and the number of increments where it is one
-pub record Measured (version : ℕ) (log : List ℕ) (found by_one : Bool) (count : ℕ) : Type 0 where
-  pub right : found ≡ is_log version log
-  pub amounts : found ≡ true → by_one ≡ all_by_one (messages_in version log)
-  pub counted : found ≡ true → count ≡ increments (messages_in version log)
-  pub few : int_width * count ≤ length log
+-- what is found of a log, if the bytes are one
+unfoldable pub measured : ℕ → List ℕ → Option Found
+measured version log =
+    let ms = messages_in version log in
+    cond (is_log version log) (Option.Some (record { by_one = all_by_one ms; increments = increments ms })) Option.None
 
--- `place` bytes are passed, with `count` increments among them
-pub record Walked (version : ℕ) (log : List ℕ) (by_one : Bool) (count place : ℕ) : Type 0 where
-  pub inside : place ≤ length log
-  pub right : is_log version (drop place log) ≡ is_log version log
-  pub amounts : by_one && all_by_one (messages_in version (drop place log)) ≡ all_by_one (messages_in version log)
-  pub counted : count + increments (messages_in version (drop place log)) ≡ increments (messages_in version log)
-  pub few : int_width * count ≤ place
+-- the bytes of the log that are left where some messages are passed, with `count` increments among them
+pub record Walked (version : ℕ) (log : List ℕ) (by_one : Bool) (count : ℕ) (rest : List ℕ) : Type 0 where
+  pub bytes : Bytes rest
+  pub right : is_log version rest ≡ is_log version log
+  pub amounts : by_one && all_by_one (messages_in version rest) ≡ all_by_one (messages_in version log)
+  pub counted : count + increments (messages_in version rest) ≡ increments (messages_in version log)
+  pub few : int_width * count + length rest ≤ length log
 
-pub walk_begins : (version : ℕ) (log : List ℕ) → Walked version log true 0 0
-walk_begins version log = record { inside = omega arith; right = refl; amounts = refl; counted = omega arith; few = omega arith }
+pub walk_begins : (version : ℕ) (log : List ℕ) → Bytes log → Walked version log true 0 log
+walk_begins version log bytes = record { bytes = bytes; right = refl; amounts = refl; counted = omega arith; few = omega arith }
 
 by_one_next : (m : Message) (ms : List Message) → all_by_one (m ∷ ms) ≡ leb m.amount 1 && all_by_one ms
 unfolding all_by_one
@@ -59,46 +58,34 @@ increments_next m ms = refl
 few_more : (m : Message) → one_if_increment m ≤ 1
 few_more m = by_test (eqb m.kind increment_kind) (λ t. rw t (omega arith)) (λ f. rw f (omega arith))
 
-module _ (version : ℕ) (log : List ℕ) (by_one : Bool) (count place : ℕ) (h : Walked version log by_one count place) where
+module _ (version : ℕ) (log : List ℕ) (by_one : Bool) (count : ℕ) (rest : List ℕ) (h : Walked version log by_one count rest) where
   -- the message in front is passed
-  pub walk_next : (n : ℕ) (by : Bool) (one : ℕ) → Bytes log → n ≡ front_length version (drop place log) → (n ≡ 0 → ⊥)
-      → by ≡ leb (message_at version (take n (drop place log))).amount 1 → one ≡ one_if_increment (message_at version (take n (drop place log)))
-      → Walked version log (by_one && by) (count + one) (place + n)
-  walk_next n by one bytes front some small single =
-      let s = drop place log in
-      let there : front_length version s ≡ 0 → ⊥ = λ e. some (front ∙ e) in
-      let m = message_at version (take n s) in
-      let next = rw (← front) at (messages_next version s there) in
-      let long = first_long version s there in
-      let room = (front_there version s there).inside in
-      let rest = drop-drop n place log in
+  pub walk_next : (n : ℕ) (by : Bool) (one : ℕ) → n ≡ front_length version rest → (front_length version rest ≡ 0 → ⊥)
+      → by ≡ leb (message_at version (take n rest)).amount 1 → one ≡ one_if_increment (message_at version (take n rest))
+      → Walked version log (by_one && by) (count + one) (drop n rest)
+  walk_next n by one front there small single =
+      let m = message_at version (take n rest) in
+      let next = rw (← front) at (messages_next version rest there) in
+      let long = first_long version rest there in
+      let room = (front_there version rest there).inside in
       record {
-        inside = omega (arith, length-drop place log, front, room, h.inside);
-        right = rw (← rest) (sym (rw (← front) at (log_rest version s there (bytes_drop place log bytes))) ∙ h.right);
-        amounts = rw (← rest, small) (and_assoc by_one (leb m.amount 1) (all_by_one (messages_in version (drop n s))) ∙ rw (next, by_one_next) at h.amounts);
-        counted = rw (← rest) (omega (arith, single, rw (next, increments_next) at h.counted));
-        few = omega (arith, single, few_more m, long, front, h.few);
+        bytes = bytes_drop n rest h.bytes;
+        right = sym (rw (← front) at (log_rest version rest there h.bytes)) ∙ h.right;
+        amounts = rw small (and_assoc by_one (leb m.amount 1) (all_by_one (messages_in version (drop n rest))) ∙ rw (next, by_one_next) at h.amounts);
+        counted = omega (arith, single, rw (next, increments_next) at h.counted);
+        few = omega (arith, single, few_more m, long, front, room, h.few, length-drop n rest);
       }
 
   -- no message stands in front
-  pub walk_stops : (n : ℕ) → n ≡ front_length version (drop place log) → n ≡ 0 → place < length log → Measured version log false false 0
-  walk_stops n front none more =
-      let some : 0 < length (drop place log) = omega (arith, length-drop place log) in
-      record {
-        right = sym (sym h.right ∙ no_log version (drop place log) some (sym front ∙ none));
-        amounts = λ e. absurd (false≢true e);
-        counted = λ e. absurd (false≢true e);
-        few = omega arith;
-      }
+  pub walk_stops : front_length version rest ≡ 0 → 0 < length rest → Option.None ≡ measured version log
+  unfolding measured
+  walk_stops none more = rw (sym h.right ∙ no_log version rest more none)
 
   -- all are passed
-  pub walk_ends : length log ≤ place → Measured version log true by_one count
-  unfolding messages_from log_bytes all_by_one increments
+  pub walk_ends : length rest ≡ 0 → Option.Some (record { by_one = by_one; increments = count }) ≡ measured version log
+  unfolding measured messages_from log_bytes all_by_one increments
   walk_ends all =
-      let none : drop place log ≡ [] = drop_of_length-le log all in
-      record {
-        right = rw none at h.right;
-        amounts = λ e. sym (and-true by_one) ∙ rw none at h.amounts;
-        counted = λ e. omega (arith, rw none at h.counted);
-        few = omega (arith, h.few, h.inside);
-      }
+      let none : rest ≡ [] = nil_from_length rest all in
+      let one : by_one ≡ all_by_one (messages_in version log) = sym (and-true by_one) ∙ rw none at h.amounts in
+      let all_counted : count ≡ increments (messages_in version log) = omega (arith, rw none at h.counted) in
+      rw (← (rw none at h.right), one, all_counted)

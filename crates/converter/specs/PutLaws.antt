@@ -1,12 +1,11 @@
 -- LAWS. The messages of a log, one after the other, in another version: what is written of each, and of all.
-use Rattle.std.specs.Prelude.{ℕ, suc, ◌+◌, ◌-◌, ◌*◌, ◌≤◌, ◌<◌, ◌≡◌, refl, true, false, length, get_or, set, take}
+use Rattle.std.specs.Prelude.{ℕ, ◌+◌, ◌-◌, ◌*◌, ◌≤◌, ◌<◌, ◌≡◌, refl, true, false, length, take}
 use Rattle.std.proofs.Math.Path.{sym}
-use Rattle.std.proofs.Common.{ap, ◌∙◌, zero-add, arith, length-append, length-drop, take-append-drop, take_at, drop_at, drop-drop, take-add, length-take-le, eq-eqb}
-use mathlib.Core.List.{List, [], ◌++◌, append_assoc, append-nil}
-use Rattle.std.proofs.Math.ListN.{drop, drop_of_length-le}
+use Rattle.std.proofs.Common.{ap, ◌∙◌, arith, length-append, length-drop, take-append-drop, take_at, drop_at, drop-drop, take-add, length-take-le, eq-eqb}
+use mathlib.Core.List.{List, ◌++◌, append_assoc, append-nil}
+use Rattle.std.proofs.Math.ListN.{drop}
 use Rattle.std.proofs.lemmas.List.Edits.{sets}
-use Rattle.std.proofs.Math.Seq.{length-sets, paste-suc}
-use Rattle.std.proofs.lemmas.List.{drop-append-le}
+use Rattle.std.proofs.lemmas.List.{drop-append-le, nil_from_length}
 use Rattle.protocol.proofs.Cases.{by_test}
 use Rattle.protocol.proofs.StoredLists.{sets_append, sets_front}
 use Rattle.wire.specs.Number.{Bytes, int_width, hyper_width, int_at, hyper_at, unsigned_int, unsigned_hyper}
@@ -27,12 +26,6 @@ abbrev pub first_moved : (from to : ℕ) → List ℕ → List ℕ
 first_moved from to s = moved to (take (front_length from s) s)
 
 -- ---- bytes copied
-
--- one more
-pub copy_next : (bytes out : List ℕ) (i : ℕ) → i < length bytes → i < length out → set (take i bytes ++ drop i out) i (get_or bytes i 0) ≡ take (suc i) bytes ++ drop (suc i) out
-copy_next bytes out i below room =
-    let turn = paste-suc out 0 bytes i 0 (omega arith) below in
-    simp zero-add at turn
 
 -- eight more, as a number
 pub eights_next : (bytes out : List ℕ) (from i : ℕ) → Bytes bytes → from + hyper_width * i + hyper_width ≤ length bytes
@@ -79,9 +72,6 @@ module _ (to : ℕ) (s out word first : List ℕ) (some : amount_at ≤ length s
 
   pub amount_none : has_amount to ≡ false → first ≡ over (plain ++ amount_bytes to 1) out
   amount_none none = rw (none, append-nil plain) (plain_stored ∙ sets_front plain out (rw plain_long (omega arith)))
-
-  pub amount_room : has_amount to ≡ true → amount_at + int_width ≤ length first
-  amount_room has = rw (plain_stored, length-sets out 0 plain) (rw has at room)
 
   pub amount_put : has_amount to ≡ true → (last : List ℕ) → last ≡ sets first amount_at (unsigned_int 1) → last ≡ over (plain ++ amount_bytes to 1) out
   amount_put has last three =
@@ -186,55 +176,50 @@ module _ (at : ℕ) (out b last : List ℕ) (room : at + length b ≤ length out
       rw (split, take_at front rest (at + length b) front_long, drop_at front rest (at + length b) front_long, over_append b c (drop at out))
       (append_assoc (take at out) b (over c rest))
 
--- `place` bytes of the log are read and `at` bytes are written; with what is left of the log behind them, the output is what it has to be
-pub record Putting (from to : ℕ) (log before : List ℕ) (out : List ℕ) (place at : ℕ) : Type 0 where
-  pub inside : place ≤ length log
-  pub right : is_log from (drop place log) ≡ true
+-- `rest` of the log is left and `at` bytes are written; with the rest behind them, the output is what it has to be
+pub record Putting (from to : ℕ) (log before rest out : List ℕ) (at : ℕ) : Type 0 where
+  pub bytes : Bytes rest
+  pub right : is_log from rest ≡ true
   pub same : length out ≡ length before
-  pub room : at + length (converted from to (drop place log)) ≤ length out
-  pub whole : take at out ++ over (converted from to (drop place log)) (drop at out) ≡ over (converted from to log) before
+  pub room : at + length (converted from to rest) ≤ length out
+  pub whole : take at out ++ over (converted from to rest) (drop at out) ≡ over (converted from to log) before
 
 module _ (from to : ℕ) (log before : List ℕ) where
-  pub putting_begins : is_log from log ≡ true → length (converted from to log) ≤ length before → Putting from to log before before 0 0
-  putting_begins right room = record { inside = omega arith; right = right; same = refl; room = omega arith; whole = refl }
+  pub putting_begins : Bytes log → is_log from log ≡ true → length (converted from to log) ≤ length before → Putting from to log before log before 0
+  putting_begins bytes right room = record { bytes = bytes; right = right; same = refl; room = omega arith; whole = refl }
 
-  module _ (out : List ℕ) (place at : ℕ) (h : Putting from to log before out place at) where
+  module _ (rest out : List ℕ) (at : ℕ) (h : Putting from to log before rest out at) where
     -- a message is left
-    pub putting_some : place < length log → front_length from (drop place log) ≡ 0 → ⊥
-    putting_some more = log_first from (drop place log) h.right (omega (arith, length-drop place log))
+    pub putting_some : 0 < length rest → front_length from rest ≡ 0 → ⊥
+    putting_some more = log_first from rest h.right more
 
-    module _ (more : place < length log) where
+    module _ (more : 0 < length rest) where
       abbrev b : List ℕ
-      b = first_moved from to (drop place log)
+      b = first_moved from to rest
 
       abbrev n : ℕ
-      n = front_length from (drop place log)
+      n = front_length from rest
 
       -- there is room for it, and then for the rest
-      pub putting_room : at + length b + length (converted from to (drop n (drop place log))) ≤ length out
-      putting_room =
-          omega (arith, rw (converted_next from to (drop place log) (putting_some more), length-append b (converted from to (drop n (drop place log)))) at h.room)
+      pub putting_room : at + length b + length (converted from to (drop n rest)) ≤ length out
+      putting_room = omega (arith, rw (converted_next from to rest (putting_some more), length-append b (converted from to (drop n rest))) at h.room)
 
       -- it is read and written
-      pub putting_next : Bytes log → (read written : ℕ) (last : List ℕ) → read ≡ n → written ≡ length b → last ≡ take at out ++ over b (drop at out)
-          → Putting from to log before last (place + read) (at + written)
-      putting_next bytes read written last front long is =
-          let s = drop place log in
+      pub putting_next : (read written : ℕ) (last : List ℕ) → read ≡ n → written ≡ length b → last ≡ take at out ++ over b (drop at out)
+          → Putting from to log before (drop read rest) last (at + written)
+      putting_next read written last front long is =
           let there = putting_some more in
-          let left = drop n s in
-          let passed : drop (place + n) log ≡ left = sym (drop-drop n place log) in
+          let left = drop n rest in
           let fits : at + length b ≤ length out = omega (arith, putting_room) in
           rw (front, long) record {
-            inside = omega (arith, (front_there from s there).inside, length-drop place log, h.inside);
-            right = rw passed (sym (log_rest from s there (bytes_drop place log bytes)) ∙ h.right);
+            bytes = bytes_drop n rest h.bytes;
+            right = sym (log_rest from rest there h.bytes) ∙ h.right;
             same = put_long at out b last fits is ∙ h.same;
-            room = rw (passed, put_long at out b last fits is) putting_room;
-            whole = rw passed (put_on at out b last fits is (converted from to left) ∙ rw (converted_next from to s there) at h.whole);
+            room = rw (put_long at out b last fits is) putting_room;
+            whole = put_on at out b last fits is (converted from to left) ∙ rw (converted_next from to rest there) at h.whole;
           }
 
     -- none is
-    pub putting_ends : length log ≤ place → out ≡ over (converted from to log) before
+    pub putting_ends : length rest ≡ 0 → out ≡ over (converted from to log) before
     unfolding converted messages_from log_bytes
-    putting_ends all =
-        let none : drop place log ≡ [] = drop_of_length-le log all in
-        sym (take-append-drop at out) ∙ rw none at h.whole
+    putting_ends all = sym (take-append-drop at out) ∙ rw (nil_from_length rest all) at h.whole

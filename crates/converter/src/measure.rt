@@ -1,69 +1,58 @@
 // A log is walked from its first byte, a message at a time, and on the way its increments are counted.
-ghost use Rattle.std.specs.Prelude.{◌≡◌, true, leb};
+ghost use Rattle.std.specs.Prelude.{◌≡◌, ◌*◌, ◌≤◌, true, length, leb, IfSome};
+ghost use Rattle.wire.specs.Number.{int_width};
 ghost use Rattle.wire.specs.Message.{message_at, reads};
 ghost use Rattle.conversion.specs.ClaimTerms.{one_if_increment};
-ghost use Rattle.converter.specs.MeasureLaws.{Measured};
+ghost use Rattle.converter.specs.MeasureLaws.{measured};
 
-use wire::{decode, reader};
+use wire::reader::Reader;
+use wire::{Kind, decode};
 
-// Whether the bytes are messages of the version end to end; and if they are, whether no amount is above 1, and how many are increments.
+// Of messages: whether no amount is above 1, and how many are increments.
 #[derive(Clone, Copy)]
 pub(crate) struct Found {
-    pub is_log: bool,
     pub by_one: bool,
     pub increments: usize,
 }
 
-// The same of one message.
-#[derive(Clone, Copy)]
-struct Seen {
-    pub by_one: bool,
-    pub increments: usize,
-}
-
-fn see(message: &[u8], version: u32) -> Seen
+// Of one message.
+fn see(message: &[u8], version: u32) -> Found
     requires { reads version message.now ≡ true }
     ensures { (result.by_one ≡ leb (message_at version message.now).amount 1) × (result.increments ≡ one_if_increment (message_at version message.now)) }
 {
-    let header = reader::header_from(message, 0);
-    if header.kind == wire::CLEAR {
-        return Seen {
+    let mut rest = Reader {
+        src: message,
+        at: 0,
+    };
+    let header = rest.header();
+    if header.kind == Kind::Clear as u32 {
+        return Found {
             by_one: true,
             increments: 0,
         };
     }
-    let body = reader::increment_from(message, header.behind);
-    let amount = reader::amount_from(message, version, body.behind);
-    Seen {
-        by_one: amount.number <= 1,
+    rest.increment();
+    Found {
+        by_one: rest.amount(version) <= 1,
         increments: 1,
     }
 }
 
-pub(crate) fn measure(log: &[u8], version: u32) -> Found
-    ensures { Measured version log.now result.is_log result.by_one result.increments }
+// Of all messages of the log, if the bytes are messages of the version end to end.
+pub(crate) fn measure(log: &[u8], version: u32) -> Option<Found>
+    ensures found { result ≡ measured version log.now }
+    ensures few { IfSome result (λ found. int_width * found.increments ≤ length log.now) }
 {
     let mut by_one = true;
     let mut increments: usize = 0;
-    let mut place: usize = 0;
-    while place < log.len() {
-        let rest = &log[place..];
-        let length = decode::front_length(rest, version);
-        if length == 0 {
-            return Found {
-                is_log: false,
-                by_one: false,
-                increments: 0,
-            };
-        }
-        let seen = see(&rest[..length], version);
-        by_one = by_one & seen.by_one;
+    let mut rest = log;
+    while !rest.is_empty() {
+        let length = decode::front_length(rest, version)?;
+        let (message, behind) = rest.split_at(length);
+        let seen = see(message, version);
+        by_one &= seen.by_one;
         increments += seen.increments;
-        place += length;
+        rest = behind;
     }
-    Found {
-        is_log: true,
-        by_one,
-        increments,
-    }
+    Some(Found { by_one, increments })
 }

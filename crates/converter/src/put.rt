@@ -2,33 +2,24 @@
 ghost use Rattle.std.specs.Prelude.{◌≡◌, true, ◌++◌, ◌+◌, ◌*◌, ◌≤◌, length, take, drop};
 ghost use Rattle.std.proofs.lemmas.List.Edits.{sets};
 ghost use Rattle.wire.specs.Number.{int_width, hyper_width, unsigned_int};
-ghost use Rattle.wire.specs.Message.{increment_length, amount_at, amount_bytes, version_in, reads, front_length, is_log, over};
+ghost use Rattle.wire.specs.Message.{increment_length, amount_at, amount_bytes, version_in, reads, is_log, over};
 ghost use Rattle.conversion.specs.Conversion.{converted};
-ghost use Rattle.converter.specs.PutLaws.{moved, first_moved};
+ghost use Rattle.converter.specs.PutLaws.{moved};
 
-use wire::{decode, number, reader};
+use wire::number::Unsigned;
+use wire::reader::Reader;
+use wire::{Kind, decode, number};
 
 // What an increment has between its version and its amount, in eights.
 const BODY_EIGHTS: usize = (wire::PLAIN_INCREMENT_BYTES - number::INT_BYTES) / number::HYPER_BYTES;
-
-fn copy(bytes: &[u8], out: &mut [u8])
-    requires { length bytes.now ≤ length out.old }
-    ensures { out.new ≡ over bytes.now out.old }
-{
-    let mut i: usize = 0;
-    while i < bytes.len() {
-        out[i] = bytes[i];
-        i += 1;
-    }
-}
 
 // "a clear changes its version only"
 fn put_clear(message: &[u8], to: u32, out: &mut [u8])
     requires { (int_width ≤ length message.now) × (length message.now ≤ length out.old) }
     ensures { out.new ≡ over (unsigned_int to ++ drop int_width message.now) out.old }
 {
-    copy(message, out);
-    number::write_u32(out, 0, to);
+    out[..message.len()].copy_from_slice(message);
+    to.write(out, 0);
 }
 
 // Copies `count` times eight bytes from `from` on, to where they stand. Each eight are read as a number right before they are written, which is a
@@ -37,11 +28,9 @@ fn copy_eights(bytes: &[u8], from: usize, count: usize, out: &mut [u8])
     requires { (from + hyper_width * count ≤ length bytes.now) × (from + hyper_width * count ≤ length out.old) }
     ensures { out.new ≡ sets out.old from (take (hyper_width * count) (drop from bytes.now)) }
 {
-    let mut i: usize = 0;
-    while i < count {
+    for i in 0..count {
         let at = from + number::HYPER_BYTES * i;
-        number::write_u64(out, at, number::read_u64(bytes, at));
-        i += 1;
+        u64::read(bytes, at).write(out, at);
     }
 }
 
@@ -50,12 +39,12 @@ fn put_increment(message: &[u8], to: u32, out: &mut [u8]) -> usize
     requires { (amount_at ≤ length message.now) × (increment_length to ≤ length out.old) }
     ensures { (result ≡ increment_length to) × (out.new ≡ over (unsigned_int to ++ drop int_width (take amount_at message.now) ++ amount_bytes to 1) out.old) }
 {
-    number::write_u32(out, 0, to);
+    to.write(out, 0);
     copy_eights(message, number::INT_BYTES, BODY_EIGHTS, out);
     if !wire::has_amount(to) {
         return wire::PLAIN_INCREMENT_BYTES;
     }
-    number::write_u32(out, wire::PLAIN_INCREMENT_BYTES, 1);
+    1u32.write(out, wire::PLAIN_INCREMENT_BYTES);
     wire::INCREMENT_BYTES
 }
 
@@ -64,40 +53,28 @@ fn put_message(message: &[u8], to: u32, out: &mut [u8]) -> usize
     requires { (reads (version_in message.now) message.now ≡ true) × (length (moved to message.now) ≤ length out.old) }
     ensures { (result ≡ length (moved to message.now)) × (out.new ≡ over (moved to message.now) out.old) }
 {
-    let header = reader::header_from(message, 0);
-    if header.kind == wire::CLEAR {
-        put_clear(message, to, out);
-        return message.len();
+    let header = Reader {
+        src: message,
+        at: 0,
     }
-    put_increment(message, to, out)
-}
-
-// How far a message takes the two positions.
-#[derive(Clone, Copy)]
-struct Moved {
-    pub read: usize,
-    pub written: usize,
-}
-
-// The message that the bytes start with.
-fn put_first(bytes: &[u8], from: u32, to: u32, out: &mut [u8]) -> Moved
-    requires { (front_length from bytes.now ≡ 0 → ⊥) × (length (first_moved from to bytes.now) ≤ length out.old) }
-    ensures { (result.read ≡ front_length from bytes.now) × (result.written ≡ length (first_moved from to bytes.now)) × (out.new ≡ over (first_moved from to bytes.now) out.old) }
-{
-    let read = decode::called_length_of(bytes, from);
-    let written = put_message(&bytes[..read], to, out);
-    Moved { read, written }
+    .header();
+    if header.kind == Kind::Clear as u32 {
+        put_clear(message, to, out);
+        message.len()
+    } else {
+        put_increment(message, to, out)
+    }
 }
 
 pub(crate) fn put_log(log: &[u8], from: u32, to: u32, out: &mut [u8])
     requires { (is_log from log.now ≡ true) × (length (converted from to log.now) ≤ length out.old) }
     ensures { out.new ≡ over (converted from to log.now) out.old }
 {
-    let mut place: usize = 0;
+    let mut rest = log;
     let mut at: usize = 0;
-    while place < log.len() {
-        let moved = put_first(&log[place..], from, to, &mut out[at..]);
-        place += moved.read;
-        at += moved.written;
+    while !rest.is_empty() {
+        let (message, behind) = rest.split_at(decode::called_length_of(rest, from));
+        at += put_message(message, to, &mut out[at..]);
+        rest = behind;
     }
 }

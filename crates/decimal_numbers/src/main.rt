@@ -2,17 +2,16 @@
 // unsigned hypers of RFC 4506, as decimal text, each on a line of its own. A number of 10^16 or more gives an empty line.
 #![tactic(auto)]
 
-ghost use Rattle.std.specs.Prelude.{◌≡◌, ◌+◌, ◌*◌, ◌≤◌, length, take};
+ghost use Rattle.std.specs.Prelude.{◌≡◌, ◌+◌, ◌*◌, ◌≤◌, length};
 
-use wire::number;
+use text::Output;
+use wire::number::{HYPER_BYTES, Unsigned};
 
 const STDIN: i32 = 0;
 
 const STDOUT: i32 = 1;
 
 const MOST_NUMBERS: usize = 1024;
-
-const NUMBER_BYTES: usize = 8;
 
 const LINE_BYTES: usize = text::MOST_DIGITS + 1;
 
@@ -21,39 +20,35 @@ const LIMIT: u64 = 10_000_000_000_000_000;
 
 const LINE_END: [u8; 1] = *b"\n";
 
-fn number_at(input: &[u8], at: usize) -> u64
-    requires { at + 8 ≤ length input.now }
-{
-    number::read_u32(input, at) as u64 * 4_294_967_296 + number::read_u32(input, at + 4) as u64
-}
-
-fn put_line(x: u64, out: &mut [u8], at: usize) -> usize
-    requires { at + 17 ≤ length out.old }
-    ensures { result ≤ at + 17 }
+fn put_line(x: u64, out: &mut Output)
+    requires { out.old.len + 17 ≤ length out.old.bytes.now }
+    ensures { (out.new.len ≤ out.old.len + 17) × (length out.new.bytes.now ≡ length out.old.bytes.now) }
 {
     if x < LIMIT {
-        return text::put_field(x, &LINE_END, out, at);
+        out.put_field(x, &LINE_END);
+    } else {
+        out.put_text(&LINE_END);
     }
-    text::put_text(&LINE_END, out, at)
 }
 
-fn put_lines(input: &[u8], out: &mut [u8]) -> usize
-    requires { (length input.now ≤ 8192) × (17 * length input.now ≤ 8 * length out.old) }
-    ensures { (result ≤ length out.new) × (result ≡ length (take result out.new)) }
+fn put_lines(input: &[u8], out: &mut Output)
+    requires { (out.old.len ≡ 0) × (17 * length input.now ≤ 8 * length out.old.bytes.now) }
+    ensures { out.new.len ≤ length out.old.bytes.now }
 {
-    let mut at: usize = 0;
-    let mut end: usize = 0;
-    while at + NUMBER_BYTES <= input.len() {
-        end = put_line(number_at(input, at), out, end);
-        at += NUMBER_BYTES;
+    for number in input.chunks_exact(HYPER_BYTES) {
+        put_line(u64::read(number, 0), out);
     }
-    end
 }
 
 fn main() {
-    let mut input = [0u8; NUMBER_BYTES * MOST_NUMBERS];
+    let mut input = [0u8; HYPER_BYTES * MOST_NUMBERS];
     let length = io::read_full(STDIN, &mut input);
-    let mut out = [0u8; LINE_BYTES * MOST_NUMBERS];
-    let count = put_lines(&input[..length], &mut out);
-    io::write_all(STDOUT, &out[..count]);
+    let mut bytes = [0u8; LINE_BYTES * MOST_NUMBERS];
+    let mut out = Output {
+        bytes: &mut bytes,
+        len: 0,
+    };
+    put_lines(&input[..length], &mut out);
+    let end = out.len;
+    io::write_all(STDOUT, &bytes[..end]);
 }

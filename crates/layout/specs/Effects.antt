@@ -1,5 +1,5 @@
 -- LAWS. What a message that is received does to the words, from the parts that effect.rt computes one after the other.
-use Rattle.std.specs.Prelude.{◌≡◌, ℕ, ◌+◌, ◌<◌, ◌≤◌, Bool, cond, List, length, get_or, drop, slice_index_or, refl}
+use Rattle.std.specs.Prelude.{◌≡◌, ℕ, ◌+◌, ◌<◌, ◌≤◌, Bool, List, length, get_or, drop, slice_index_or, refl}
 use Rattle.std.proofs.Common.{ap, ◌∙◌, arith, drop_of_length-le, drop-cons}
 use Rattle.std.proofs.Math.Numerals.{add-one}
 use Rattle.protocol.specs.declared.Entry.{Entry}
@@ -31,10 +31,6 @@ receives_entry b r q j j' e l h = record {
 -- one message more of card j, from which `received` increments had come, and w more
 abbrev pub with_message : ℕ → ℕ → ℕ → ℕ → List ℕ → List ℕ
 with_message r j received w b = set_N r j (N_of r b j + 1) (set_C j (received + w) b)
-
--- an entry that has been put, and the row's bit by a look at all of them, where it is not left for later
-abbrev pub marked_if : Bool → ℕ → ℕ → List ℕ → List ℕ
-marked_if t r q b = cond t (mark r q b) b
 
 -- one entry of a clear
 abbrev pub entry_cleared : ℕ → ℕ → ClearEntry → List ℕ → List ℕ

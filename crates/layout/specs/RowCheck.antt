@@ -1,6 +1,6 @@
 -- LAWS. A row is well-formed, from what words.rt tests: that each entry is ordered, that all that is to be at most MAX, joined bit by bit, is, that the own entry is counted,
 -- and that the bit agrees with what is joined. And every p, joined, says whether a row has an entry.
-use Rattle.std.specs.Prelude.{◌≡◌, ℕ, zero, suc, ◌+◌, ◌-◌, ◌*◌, ◌<◌, ◌≤◌, true, false, not, ltb, List, bit_or, nat_le, nat_lt, slice_index}
+use Rattle.std.specs.Prelude.{◌≡◌, ℕ, zero, suc, ◌+◌, ◌-◌, ◌*◌, ◌<◌, ◌≤◌, true, false, ltb, List, bit_or, nat_le, nat_lt, slice_index}
 use Rattle.std.proofs.Math.Path.{refl, sym}
 use Rattle.std.proofs.Common.{◌∙◌, add-one, leb-true, le-leb, lt-ltb, le-ltb, ltb-false}
 use Rattle.std.proofs.lemmas.Bool.{false≢true}
@@ -9,7 +9,7 @@ use Rattle.std.proofs.lemmas.Nat.{or_lt, and_le_l, and_le_r}
 use Rattle.std.specs.Int.Bits.{or_add_and}
 use borrow.Author.Count.{below_none, below_more}
 use Rattle.protocol.specs.Limits.{MAX}
-use Rattle.protocol.proofs.Cases.{by_test, by_le, by_place, not_yes, agrees_true, agrees_false, agrees_yes, agrees_no}
+use Rattle.protocol.proofs.Cases.{by_test, by_le, by_place, not_yes, agrees_true, agrees_false}
 use Rattle.protocol.specs.Functions.{agrees}
 use Rattle.protocol.proofs.BitLaws.{any_none}
 use Rattle.protocol.specs.Entry.{present, has_entry}
@@ -182,13 +182,6 @@ module _ {b : List ℕ} {r q high counts : ℕ} (k : Checked b r q r high) (firs
   check_ahead above = row_ahead b q (rw first at above)
 
   module _ (low : bit_or counts high ≤ MAX) (own : nat_le (entry_of r b q (own_card b)).c (C_of b (own_card b)) ≡ true) where
-    -- or neither
-    decides : agrees (active_of b q) (nat_lt 0 high) ≡ row_well_formed b q
-    decides = rw (k.whole, first) (row_decided b q (rw first at k.ordered) (rw (all, k.whole, first) at low) (leb-true _ _ (rw first at own)))
-
-    -- then the bit is to be one where there is an entry, and zero where there is none
-    pub check_active : 0 < high → active_of b q ≡ row_well_formed b q
-    check_active some = sym (agrees_yes (active_of b q)) ∙ (rw (lt-ltb 0 high some) at decides)
-
-    pub check_quiet : high ≤ 0 → not (active_of b q) ≡ row_well_formed b q
-    check_quiet none = sym (agrees_no (active_of b q)) ∙ (rw (le-ltb 0 high none) at decides)
+    -- or neither: then the bit is to be one exactly where there is an entry
+    pub check_ends : agrees (active_of b q) (nat_lt 0 high) ≡ row_well_formed b q
+    check_ends = rw (k.whole, first) (row_decided b q (rw first at k.ordered) (rw (all, k.whole, first) at low) (leb-true _ _ (rw first at own)))

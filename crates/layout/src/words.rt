@@ -22,12 +22,6 @@ const ACTIVE: usize = 3;
 // The words of an entry: p, n and c.
 pub const ENTRY: usize = 3;
 
-pub fn index(word: u64) -> usize
-    ensures { result ≡ word }
-{
-    word as usize
-}
-
 // How long a replica of r cards and k counters is.
 pub fn replica_words(r: usize, k: usize) -> usize
     requires { (r ≤ most_cards) × (k ≤ most_counters) }
@@ -40,7 +34,7 @@ pub fn replica_words(r: usize, k: usize) -> usize
 pub fn are_sizes_in_range(r: u64, k: u64) -> bool
     ensures { result ≡ sizes_in_range r k }
 {
-    (1 <= r) & (r <= protocol::MOST_CARDS) & (1 <= k) & (k <= protocol::MOST_COUNTERS)
+    (1..=protocol::MOST_CARDS).contains(&r) & (1..=protocol::MOST_COUNTERS).contains(&k)
 }
 
 // The first three words.
@@ -49,7 +43,7 @@ pub fn cards_of(words: &[u64]) -> usize
     requires { HeadInside words.now }
     ensures { result ≡ cards words.now }
 {
-    index(words[0])
+    words[0] as usize
 }
 
 pub fn counters_of(words: &[u64]) -> u64
@@ -63,7 +57,7 @@ pub fn own_card(words: &[u64]) -> usize
     requires { HeadInside words.now }
     ensures { result ≡ own_card words.now }
 {
-    index(words[2])
+    words[2] as usize
 }
 
 pub fn set_head(words: &mut [u64], r: u64, k: u64, own: u64)
@@ -80,10 +74,7 @@ pub fn set_head(words: &mut [u64], r: u64, k: u64, own: u64)
 pub fn fits(len: usize, r: u64, k: u64, own: u64) -> bool
     ensures { result ≡ replica_fits r k own len }
 {
-    if are_sizes_in_range(r, k) {
-        return (own < r) & (len == replica_words(index(r), index(k)));
-    }
-    false
+    are_sizes_in_range(r, k) && (own < r) & (len == replica_words(r as usize, k as usize))
 }
 
 // Whether no bit is one for a counter that is not there: at most one is left behind the first k - 1. So nothing is shifted by 64.
@@ -98,13 +89,9 @@ fn is_low(active: u64, k: usize) -> bool
 pub fn is_right(words: &[u64]) -> bool
     ensures { result ≡ right words.now }
 {
-    if words.len() < HEAD {
-        return false;
-    }
-    if !fits(words.len(), words[0], words[1], words[2]) {
-        return false;
-    }
-    is_low(words[ACTIVE], index(words[1]))
+    words.len() >= HEAD
+        && fits(words.len(), words[0], words[1], words[2])
+        && is_low(words[ACTIVE], words[1] as usize)
 }
 
 // Whether it is the replica of card `own` of r cards and k counters, as far as its first four words say.
@@ -134,19 +121,17 @@ fn is_active(words: &[u64], q: usize) -> bool
     (words[ACTIVE] >> q) & 1 == 1
 }
 
-// Ruled out: another counter's bit set (must-fail/marks_counter_0_too).
-fn set_active(words: &mut [u64], q: usize)
+// Ruled out: another counter's bit set (must-fail/marks_counter_0_too) or taken away (must-fail/quiets_counter_0_too).
+pub fn set_active(words: &mut [u64], q: usize, active: bool)
     requires { HeadInside words.old × (q < most_counters) }
-    ensures { words.new ≡ set_active q true words.old }
+    ensures { words.new ≡ set_active q active words.old }
 {
-    words[ACTIVE] = words[ACTIVE] | (1u64 << q);
-}
-
-pub fn set_quiet(words: &mut [u64], q: usize)
-    requires { HeadInside words.old × (q < most_counters) }
-    ensures { words.new ≡ set_active q false words.old }
-{
-    words[ACTIVE] = (words[ACTIVE] | (1u64 << q)) - (1u64 << q);
+    let bit = 1u64 << q;
+    if active {
+        words[ACTIVE] |= bit;
+    } else {
+        words[ACTIVE] &= !bit;
+    }
 }
 
 // C[j] and N[j].
@@ -179,14 +164,7 @@ pub fn set_messages(words: &mut [u64], r: usize, j: usize, value: u64)
     words[HEAD + r + j] = value;
 }
 
-// The entry of counter q for card j: where it stands, its three words, and others there.
-
-fn entry_place(r: usize, q: usize, j: usize) -> usize
-    requires { (q * r ≤ most_counters * most_cards) × (r ≤ most_cards) × (j < r) }
-    ensures { result ≡ at_entry r q j }
-{
-    HEAD + 2 * r + ENTRY * (q * r + j)
-}
+// The three words of an entry: what they say, and others there.
 
 fn entry_from(words: &[u64], at: usize) -> Entry
     requires { at + 2 < length words.now }
@@ -208,21 +186,6 @@ fn put_three(words: &mut [u64], at: usize, e: Entry)
     words[at + 2] = e.c;
 }
 
-pub fn entry_at(words: &[u64], r: usize, q: usize, j: usize) -> Entry
-    requires { RowInside words.now r q × (j < r) }
-    ensures { result ≡ entry_of r words.now q j }
-{
-    entry_from(words, entry_place(r, q, j))
-}
-
-pub fn put_entry(words: &mut [u64], r: usize, q: usize, j: usize, e: Entry)
-    requires { RowInside words.old r q × (j < r) }
-    ensures { words.new ≡ set_entry r q j e words.old }
-{
-    let at = entry_place(r, q, j);
-    put_three(words, at, e);
-}
-
 // Three zeros, from the last on: where one branch puts an entry and another takes it away, stores in one order would be made one for both, of numbers that the branch has
 // chosen, and zeros no longer be two stores.
 fn clear_three(words: &mut [u64], at: usize)
@@ -234,67 +197,15 @@ fn clear_three(words: &mut [u64], at: usize)
     words[at] = 0;
 }
 
-pub fn put_absent(words: &mut [u64], r: usize, q: usize, j: usize)
-    requires { RowInside words.old r q × (j < r) }
-    ensures { words.new ≡ set_entry r q j absent words.old }
-{
-    let at = entry_place(r, q, j);
-    clear_three(words, at);
-}
-
-// An entry put that is present, and so the row's bit with it.
-pub fn put_present(words: &mut [u64], r: usize, q: usize, j: usize, e: Entry)
-    requires { RowInside words.old r q × (j < r) × (0 < e.p) }
-    ensures { words.new ≡ mark r q (set_entry r q j e words.old) }
-{
-    put_entry(words, r, q, j, e);
-    set_active(words, q);
-}
-
-// Whether row q has an entry: every p, joined bit by bit.
-fn has_entry(words: &[u64], r: usize, q: usize) -> bool
-    requires { RowInside words.now r q }
-    ensures { result ≡ has_entry r (entry_of r words.now q) }
-{
-    let mut all: u64 = 0;
-    let mut j: usize = 0;
-    while j < r {
-        all = all | entry_at(words, r, q, j).p;
-        j += 1;
-    }
-    0 < all
-}
-
-// The row's bit, by a look at all of its entries.
-pub fn mark(words: &mut [u64], r: usize, q: usize)
-    requires { RowInside words.old r q }
-    ensures { words.new ≡ mark r q words.old }
-{
-    if has_entry(words, r, q) {
-        set_active(words, q);
-        return;
-    }
-    set_quiet(words, q);
-}
-
 // Whether a row is well-formed (SPECIFICATION 3), in tests that a row which is never fails: what is to be at most MAX is joined bit by bit and
-// compared once, behind the loop, and each other test returns by itself.
+// compared once, behind the loop, and each other test decides by itself.
 
 // n at most p, p at most c, and no c where p is 0. In the last test 0 - p is 0 where p is, and else no smaller than any c up to MAX.
 // Ruled out: an entry with n above p, and one with c but no p (must-fail/c_without_p).
 pub fn is_entry_ordered(e: Entry) -> bool
     ensures { (result ≡ true → Ordered e) × (result ≡ false → entry_well_formed e ≡ false) }
 {
-    if e.c < e.p {
-        return false;
-    }
-    if e.p < e.n {
-        return false;
-    }
-    if std::num::wrapping_sub_u64(0, e.p) < e.c {
-        return false;
-    }
-    true
+    e.p <= e.c && e.n <= e.p && e.c <= e.p.wrapping_neg()
 }
 
 // C and N of every card, joined bit by bit: they stand side by side.
@@ -303,82 +214,132 @@ pub fn counts_joined(words: &[u64], r: usize) -> u64
     ensures { result ≡ joined (2 * r) words.now }
 {
     let mut all: u64 = 0;
-    let mut i: usize = 0;
-    while i < 2 * r {
-        all = all | words[HEAD + i];
-        i += 1;
+    for count in &words[HEAD..HEAD + 2 * r] {
+        all |= *count;
     }
     all
 }
 
-// The own entry's c is at most the own C.
-fn is_own_entry_counted(words: &[u64], r: usize, q: usize) -> bool
-    requires { RowInside words.now r q }
-    ensures { result ≡ nat_le (entry_of r words.now q (own_card words.now)).c (C_of words.now (own_card words.now)) }
-{
-    let own = own_card(words);
-    let e = entry_at(words, r, q, own);
-    e.c <= increments_at(words, own)
+// The row of a counter, in the words of a replica of so many cards: the entries of that counter, one for each card.
+#[derive(Clone, Copy)]
+pub struct Row {
+    pub cards: usize,
+    pub counter: usize,
 }
 
-// What is left to ask of row q behind its entries: `counts` is C and N joined, `high` every c. An entry that is ordered is present where its c is not 0, so
-// `high` says what the bit has to.
-// Ruled out: numbers of MAX refused (must-fail/MAX_refused), C asked to be within N, and a row taken for empty whose entry has a c of 1 (must-fail/c_of_1_not_seen).
-pub fn is_rest_well_formed(words: &[u64], r: usize, q: usize, counts: u64, high: u64) -> bool
-    requires { RowInside words.now r q × (counts ≡ joined (2 * r) words.now) × Checked words.now r q r high }
-    ensures { result ≡ row_well_formed words.now q }
-{
-    if protocol::MAX < (counts | high) {
-        return false;
+impl Row {
+    fn entry_place(self, card: usize) -> usize
+        requires { (self.counter * self.cards ≤ most_counters * most_cards) × (self.cards ≤ most_cards) × (card < self.cards) }
+        ensures { result ≡ at_entry self.cards self.counter card }
+    {
+        HEAD + 2 * self.cards + ENTRY * (self.counter * self.cards + card)
     }
-    if !is_own_entry_counted(words, r, q) {
-        return false;
-    }
-    if 0 < high {
-        return is_active(words, q);
-    }
-    !is_active(words, q)
-}
 
-// Whether row q is well-formed; `counts` is C and N joined.
-fn is_row_well_formed_beside(words: &[u64], r: usize, q: usize, counts: u64) -> bool
-    requires { RowInside words.now r q × (counts ≡ joined (2 * r) words.now) }
-    ensures { result ≡ row_well_formed words.now q }
-{
-    let mut high: u64 = 0;
-    let mut j: usize = 0;
-    while j < r {
-        let e = entry_at(words, r, q, j);
-        if !is_entry_ordered(e) {
-            return false;
+    pub fn entry(self, words: &[u64], card: usize) -> Entry
+        requires { RowInside words.now self.cards self.counter × (card < self.cards) }
+        ensures { result ≡ entry_of self.cards words.now self.counter card }
+    {
+        entry_from(words, self.entry_place(card))
+    }
+
+    pub fn put_entry(self, words: &mut [u64], card: usize, e: Entry)
+        requires { RowInside words.old self.cards self.counter × (card < self.cards) }
+        ensures { words.new ≡ set_entry self.cards self.counter card e words.old }
+    {
+        put_three(words, self.entry_place(card), e);
+    }
+
+    pub fn put_absent(self, words: &mut [u64], card: usize)
+        requires { RowInside words.old self.cards self.counter × (card < self.cards) }
+        ensures { words.new ≡ set_entry self.cards self.counter card absent words.old }
+    {
+        clear_three(words, self.entry_place(card));
+    }
+
+    // An entry put that is present, and so the row's bit with it.
+    pub fn put_present(self, words: &mut [u64], card: usize, e: Entry)
+        requires { RowInside words.old self.cards self.counter × (card < self.cards) × (0 < e.p) }
+        ensures { words.new ≡ mark self.cards self.counter (set_entry self.cards self.counter card e words.old) }
+    {
+        self.put_entry(words, card, e);
+        set_active(words, self.counter, true);
+    }
+
+    // Whether the row has an entry: every p, joined bit by bit.
+    fn has_entry(self, words: &[u64]) -> bool
+        requires { RowInside words.now self.cards self.counter }
+        ensures { result ≡ has_entry self.cards (entry_of self.cards words.now self.counter) }
+    {
+        let mut all: u64 = 0;
+        for card in 0..self.cards {
+            all |= self.entry(words, card).p;
         }
-        high = high | e.c;
-        j += 1;
+        0 < all
     }
-    is_rest_well_formed(words, r, q, counts, high)
+
+    // The row's bit, by a look at all of its entries.
+    pub fn mark(self, words: &mut [u64])
+        requires { RowInside words.old self.cards self.counter }
+        ensures { words.new ≡ mark self.cards self.counter words.old }
+    {
+        let active = self.has_entry(words);
+        set_active(words, self.counter, active);
+    }
+
+    // The own entry's c is at most the own C.
+    fn is_own_entry_counted(self, words: &[u64]) -> bool
+        requires { RowInside words.now self.cards self.counter }
+        ensures { result ≡ nat_le (entry_of self.cards words.now self.counter (own_card words.now)).c (C_of words.now (own_card words.now)) }
+    {
+        let own = own_card(words);
+        self.entry(words, own).c <= increments_at(words, own)
+    }
+
+    // What is left to ask of the row behind its entries: `counts` is C and N joined, `high` every c. An entry that is ordered is present where its c is not 0, so
+    // `high` says what the bit has to.
+    // Ruled out: numbers of MAX refused (must-fail/MAX_refused), C asked to be within N, and a row taken for empty whose entry has a c of 1 (must-fail/c_of_1_not_seen).
+    pub fn is_rest_well_formed(self, words: &[u64], counts: u64, high: u64) -> bool
+        requires { RowInside words.now self.cards self.counter × (counts ≡ joined (2 * self.cards) words.now) × Checked words.now self.cards self.counter self.cards high }
+        ensures { result ≡ row_well_formed words.now self.counter }
+    {
+        (counts | high) <= protocol::MAX
+            && self.is_own_entry_counted(words)
+            && is_active(words, self.counter) == (0 < high)
+    }
+
+    // Whether the row is well-formed; `counts` is C and N joined.
+    fn is_well_formed_beside(self, words: &[u64], counts: u64) -> bool
+        requires { RowInside words.now self.cards self.counter × (counts ≡ joined (2 * self.cards) words.now) }
+        ensures { result ≡ row_well_formed words.now self.counter }
+    {
+        let mut high: u64 = 0;
+        for card in 0..self.cards {
+            let e = self.entry(words, card);
+            if !is_entry_ordered(e) {
+                return false;
+            }
+            high |= e.c;
+        }
+        self.is_rest_well_formed(words, counts, high)
+    }
+
+    pub fn is_well_formed(self, words: &[u64]) -> bool
+        requires { RowInside words.now self.cards self.counter }
+        ensures { result ≡ row_well_formed words.now self.counter }
+    {
+        let counts = counts_joined(words, self.cards);
+        self.is_well_formed_beside(words, counts)
+    }
 }
 
-pub fn is_row_well_formed(words: &[u64], r: usize, q: usize) -> bool
-    requires { RowInside words.now r q }
-    ensures { result ≡ row_well_formed words.now q }
-{
-    let counts = counts_joined(words, r);
-    is_row_well_formed_beside(words, r, q, counts)
-}
-
-// Whether every row is: C and N are joined once.
+// Whether every row is well-formed: C and N are joined once.
+// Ruled out: a row that is not looked at (must-fail/row_0_not_looked_at).
 pub fn are_rows_well_formed(words: &[u64]) -> bool
     requires { Right words.now }
     ensures { result ≡ all_below (counters words.now) (row_well_formed words.now) }
 {
-    let r = cards_of(words);
-    let k = index(counters_of(words));
-    let counts = counts_joined(words, r);
-    let mut ok = true;
-    let mut q: usize = 0;
-    while q < k {
-        ok = ok & is_row_well_formed_beside(words, r, q, counts);
-        q += 1;
-    }
-    ok
+    let cards = cards_of(words);
+    let counts = counts_joined(words, cards);
+    let counters = counters_of(words) as usize;
+    (0..counters).all(|counter| Row { cards, counter }.is_well_formed_beside(words, counts))
 }

@@ -1,5 +1,5 @@
 -- LAWS. What the functions of this crate are lent and what they find in it, as records.
-use Rattle.std.specs.Prelude.{ℕ, suc, ◌*◌, ◌≤◌, ◌^◌, ◌<◌, ◌≡◌, Bool, true, false, cond, ◌&&◌, List, ltb, eqb, length, take, get_or}
+use Rattle.std.specs.Prelude.{ℕ, suc, ◌*◌, ◌≤◌, ◌^◌, ◌<◌, ◌≡◌, Bool, true, false, cond, ◌&&◌, Option, MatchOption, List, ltb, eqb, length, take, get_or}
 use Rattle.protocol.specs.Limits.{most_cards}
 use Rattle.protocol.specs.Functions.{all_below}
 use Rattle.wire.specs.Message.{version_2, front_length}
@@ -47,15 +47,15 @@ pub record Missing (log : List ℕ) (s n : ℕ) : Type 0 where
   pub other : is_numbered s (suc behind) (waiting_part (suc behind) log) ≡ false
 
 -- a walk from the end of the first messages, `from` of them, to the end of the first `to`
-pub record Walked (log : List ℕ) (s from to : ℕ) (ok : Bool) (at : ℕ) : Type 0 where
-  pub place : ok ≡ true → at ≡ end_of to log
-  pub there : ok ≡ true → (j : ℕ) → from ≤ j → j < to → is_numbered s (suc j) (waiting_part (suc j) log) ≡ true
-  pub missing : ok ≡ false → Missing log s to
+pub record Arrived (log : List ℕ) (s from to at : ℕ) : Type 0 where
+  pub place : at ≡ end_of to log
+  pub there : (j : ℕ) → from ≤ j → j < to → is_numbered s (suc j) (waiting_part (suc j) log) ≡ true
+
+-- it arrives, unless one of them is missing
+abbrev pub Walked : List ℕ → ℕ → ℕ → ℕ → Option ℕ → Type 0
+Walked log s from to place = MatchOption place (Missing log s to) (Arrived log s from to)
 
 -- ---- where a walk stops
-
-abbrev pub nearer : ℕ → ℕ → ℕ → ℕ
-nearer had passed stop = cond (ltb passed had && ltb had stop) had stop
 
 -- behind the first `passed` messages of card s, none of the first n receivers stands before `stop`
 pub record NextStop (sizes : Sizes) (words : List ℕ) (s passed made n stop : ℕ) : Type 0 where

@@ -1,22 +1,24 @@
 -- LAWS. A walk along a log, message by message (`stands_next`, `stands_not`), and finding the places of a sender's links on the way (`Finding`); and what waits
 -- at such a place (`numbered_waits`).
-use Rattle.std.specs.Prelude.{ℕ, zero, suc, ◌+◌, ◌≤◌, ◌<◌, ◌≡◌, refl, Bool, true, false, cond, ◌&&◌, List, leb, ltb, eqb, take, drop, get_or, set}
+use Rattle.std.specs.Prelude.{ℕ, zero, suc, ◌+◌, ◌≤◌, ◌<◌, ◌≡◌, refl, Bool, true, false, cond, ◌&&◌, min, Option, List, ◌++◌, leb, ltb, eqb, take, drop, get_or, set}
 use Rattle.std.proofs.Math.Path.{sym}
-use Rattle.std.proofs.Common.{ap, ◌∙◌, le_refl, add-one, sub-one, length-drop, length-set, drop-drop, length-take-le, get_or-set_same, get_or-set_other}
+use Rattle.std.proofs.Common.{ap, ◌∙◌, sub-one, length-drop, length-set, drop-drop, length-take-le, take-append-drop, get_or-set_same, get_or-set_other}
 use Rattle.std.proofs.Math.Bool.{and-false}
 use Rattle.std.proofs.lemmas.Bool.{false≢true}
 use native.Mathlib.Omega.{arith}
 use Rattle.std.proofs.Math.ListN.{length}
 use borrow.Author.Tests.{leb-true, eq-eqb, ne_eqb, lt-ltb, le-ltb}
 use Rattle.protocol.specs.Limits.{most_cards}
-use Rattle.protocol.proofs.Cases.{by_test, by_place, by_le, and_yes, and_left, and_right, and_no_left, and_no_right, not_yes}
+use Rattle.protocol.proofs.Cases.{by_test, by_place, by_le, and_yes, and_no_left, and_no_right, not_yes}
 use Rattle.protocol.specs.Functions.{all_below}
 use Rattle.protocol.proofs.AcceptanceLaws.{tests, below_facts, below_from}
-use Rattle.wire.specs.Number.{int_at, hyper_at}
+use Rattle.wire.specs.Number.{int_width, hyper_width, int_at, hyper_at}
 use Rattle.wire.specs.Message.{clear_kind, shortest_message, kind_at, sender_at, sequence_at, increment_message, clear_message}
 use Rattle.wire.specs.Message.{version_2, called_length, message_at, reads, front_length}
+use Rattle.wire.specs.NumberLaws.{number_at_left}
 use Rattle.wire.specs.Claims.{front_reads}
 use Rattle.wire.specs.RoundTrips.{read_long}
+use Rattle.wire.specs.Told.{unless_0}
 use Rattle.chassis_model.specs.ListParts.{part}
 use Rattle.chassis_model.proofs.ListPartsLaws.{part_length}
 use Rattle.chassis_model.specs.Log.{waiting_part, end_of}
@@ -27,11 +29,16 @@ use Rattle.chassis_model.proofs.Places.{links, link_place, WaitsAt}
 use Rattle.chassis_model.specs.Pending.{is_numbered, begins_with, log_right}
 use Rattle.chassis_model.proofs.PendingChecked.{Checked}
 use Rattle.chassis.specs.declared.Sizes.{Sizes}
-use Rattle.lent.specs.Lent.{received_in, Lent, numbered_length, Missing, Walked, nearer, NextStop, Marked, Found, AllFound}
+use Rattle.lent.specs.Each.{below_fails}
+use Rattle.lent.specs.Lent.{received_in, Lent, numbered_length, Missing, Arrived, NextStop, Marked, Found, AllFound}
 
--- one that fails is enough
-below_fails : (n : ℕ) (f : ℕ → Bool) (j : ℕ) → j < n → f j ≡ false → all_below n f ≡ false
-below_fails n f j l e = not_yes (all_below n f) (λ h. false≢true (sym e ∙ below_facts n f h j l))
+-- ---- a length that may be none
+
+pub length_there : (n front : ℕ) → Option.Some n ≡ unless_0 front → (n ≡ front) × (front ≡ 0 → ⊥)
+length_there n front is = by_place front 0 (λ e. let other = rw (eq-eqb front 0 e) at is in cc) (λ d. let same = rw (ne_eqb front 0 d) at is in (cc, d))
+
+length_missing : (front : ℕ) → Option.None ≡ unless_0 front → front ≡ 0
+length_missing front is = by_place front 0 (λ e. e) (λ d. let other = rw (ne_eqb front 0 d) at is in cc)
 
 -- ---- the messages of a log, one by one
 
@@ -81,6 +88,9 @@ front_long rest some =
     let front = front_reads version_2 rest (omega arith) in
     rw (length-take-le (front_length version_2 rest) rest front.1) at (read_long version_2 (take (front_length version_2 rest) rest) front.0)
 
+pub front_inside : (rest : List ℕ) → (front_length version_2 rest ≡ 0 → ⊥) → shortest_message ≤ length rest
+front_inside rest some = omega (arith, front_long rest some, (front_reads version_2 rest (omega arith)).1)
+
 -- the message at the front of a list of bytes
 module _ (s q : ℕ) (rest : List ℕ) where
   abbrev front : List ℕ
@@ -93,73 +103,64 @@ module _ (s q : ℕ) (rest : List ℕ) where
       let none : shortest_message ≤ length (take 0 rest) = rw e at (read_long version_2 front f.0.0) in
       omega arith
 
-  pub numbered_none : front_length version_2 rest ≡ 0 → numbered_length s q rest ≡ 0
-  numbered_none e = by_test (is_numbered s q front) (λ t. rw t e) (λ t. rw t)
-
-  pub numbered_some : (front_length version_2 rest ≡ 0 → ⊥) → is_numbered s q front ≡ eqb (int_at front sender_at) s && eqb (hyper_at front sequence_at) q
+  -- its header is that of the bytes behind it too
+  pub numbered_some : (front_length version_2 rest ≡ 0 → ⊥) → is_numbered s q front ≡ eqb (int_at rest sender_at) s && eqb (hyper_at rest sequence_at) q
   unfolding is_numbered
-  numbered_some d = rw ((front_reads version_2 rest (omega arith)).0, (header_of front).0, (header_of front).1)
+  numbered_some d =
+      let long : shortest_message ≤ length front = read_long version_2 front (front_reads version_2 rest (omega arith)).0 in
+      let behind = drop (front_length version_2 rest) rest in
+      let sender : int_at (front ++ behind) sender_at ≡ int_at front sender_at = number_at_left int_width front behind sender_at (omega arith) in
+      let sequence : hyper_at (front ++ behind) sequence_at ≡ hyper_at front sequence_at = number_at_left hyper_width front behind sequence_at (omega arith) in
+      rw ((front_reads version_2 rest (omega arith)).0, (header_of front).0, (header_of front).1, ← sender, ← sequence, take-append-drop)
 
 -- ---- a walk
 
--- message number n + 1 of card s is looked for behind the first n, and `a` is its length or 0
-module _ (log : List ℕ) (s n at a : ℕ) (place : at ≡ end_of n log) (found : a ≡ numbered_length s (suc n) (drop at log)) where
+-- message number n + 1 of card s is looked for behind the first n
+module _ (log : List ℕ) (s n at : ℕ) (place : at ≡ end_of n log) where
   abbrev is_there : Bool
   is_there = is_numbered s (suc n) (waiting_part (suc n) log)
 
   same : is_numbered s (suc n) (take (front_length version_2 (drop at log)) (drop at log)) ≡ is_there
   same = rw (waiting_at n log, place)
 
-  pub stands_next : (a ≡ 0 → ⊥) → (at + a ≡ end_of (suc n) log) × (is_there ≡ true)
-  stands_next some =
+  pub stands_next : (a : ℕ) → Option.Some a ≡ unless_0 (numbered_length s (suc n) (drop at log)) → (at + a ≡ end_of (suc n) log) × (is_there ≡ true)
+  stands_next a found =
+      let there = length_there a (numbered_length s (suc n) (drop at log)) found in
       by_test is_there
-      (λ t. let long = rw (same ∙ t, place) at found in (omega (arith, end_of_next n log), t))
-      (λ f. absurd (some (found ∙ rw (same ∙ f))))
+      (λ t. let front = rw (same ∙ t, place) at there.0 in (omega (arith, end_of_next n log), t))
+      (λ f. absurd (there.1 (rw (same ∙ f))))
 
-  pub stands_not : a ≡ 0 → is_there ≡ false
+  pub stands_not : Option.None ≡ unless_0 (numbered_length s (suc n) (drop at log)) → is_there ≡ false
   stands_not none =
       not_yes is_there
-      (λ t. numbered_there s (suc n) (drop at log) (same ∙ t) (sym (rw (same ∙ t) at found) ∙ none))
+      (λ t. numbered_there s (suc n) (drop at log) (same ∙ t) (rw (same ∙ t) at (length_missing _ none)))
 
 -- ---- the next stop, a receiver at a time
 
 module _ (sizes : Sizes) (words : List ℕ) (s passed made : ℕ) where
-  pub stop_none : passed < made → NextStop sizes words s passed made 0 made
-  stop_none some = record { above = some; within = omega arith; nearest = λ i l _. absurd (omega arith) }
+  -- a receiver that has had no more is no stop
+  pub stop_passed : (n stop : ℕ) → received_in sizes words n s ≤ passed → NextStop sizes words s passed made n stop
+      → NextStop sizes words s passed made (n + 1) stop
+  stop_passed n stop low h = record {
+    above = h.above;
+    within = h.within;
+    nearest = λ i l p. by_place i n (λ e. absurd (let p' = rw e at p in omega arith)) (λ d. h.nearest i (omega arith) p);
+  }
 
-  pub stop_next : (n stop : ℕ) → NextStop sizes words s passed made n stop
-      → NextStop sizes words s passed made (n + 1) (nearer (received_in sizes words n s) passed stop)
-  stop_next n stop h =
-      let had = received_in sizes words n s in
+  pub stop_next : (n stop : ℕ) → passed < received_in sizes words n s → NextStop sizes words s passed made n stop
+      → NextStop sizes words s passed made (n + 1) (min stop (received_in sizes words n s))
+  stop_next n stop high h =
       let below = h.above in
       let within = h.within in
-      by_test (ltb passed had && ltb had stop)
-      (λ t.
-      let f = simp tests at t in
-      rw t
-      (record {
-        above = f.0;
-        within = omega arith;
-        nearest = λ i l p.
-            by_place i n (λ e. rw e (omega arith)) (λ d. let far = h.nearest i (omega arith) p in omega arith);
-      }))
-      (λ t.
-      rw t
-      (record {
-        above = below;
-        within = within;
-        nearest = λ i l p.
-            by_place i n
-            (λ e. rw e (by_le stop had (λ m. m) (λ m. absurd (false≢true (sym t ∙ simp tests (rw e at p, m))))))
-            (λ d. h.nearest i (omega arith) p);
-      }))
+      record {
+        above = grind arith;
+        within = grind arith;
+        nearest = λ i l p. by_place i n (λ e. rw e (grind arith)) (λ d. let far = h.nearest i (omega arith) p in grind arith);
+      }
 
 -- ---- the places, a receiver at a time
 
 module _ (sizes : Sizes) (words : List ℕ) (s number at : ℕ) (before : List ℕ) where
-  pub mark_none : Marked sizes words s number at 0 before before
-  mark_none = record { size = refl; place = λ i u hi hu. rw (le-ltb i 0 (omega arith)) }
-
   -- whether the place of receiver i and sender u is marked, where n receivers are passed
   abbrev marks : ℕ → ℕ → ℕ → Bool
   marks n i u = ltb i n && eqb u s && eqb (received_in sizes words i s) number
@@ -172,21 +173,30 @@ module _ (sizes : Sizes) (words : List ℕ) (s number at : ℕ) (before : List �
       (λ l. rw (lt-ltb i n l, lt-ltb i (n + 1) (omega arith))))
       (λ f. simp (ne_eqb u s f, and-false))
 
-  pub mark_next : (n : ℕ) (places : List ℕ) → n < most_cards → s < most_cards → link_place n s < length places → Marked sizes words s number at n before places
-      → Marked sizes words s number at (n + 1) before
-      (set places (link_place n s) (cond (eqb (received_in sizes words n s) number) at (get_or places (link_place n s) 0)))
-  mark_next n places few hs inside h = record {
-    size = length-set places (link_place n s) _ ∙ h.size;
+  pub mark_passed : (n : ℕ) (places : List ℕ) → (received_in sizes words n s ≡ number → ⊥) → Marked sizes words s number at n before places
+      → Marked sizes words s number at (n + 1) before places
+  mark_passed n places other h = record {
+    size = h.size;
+    place = λ i u hi hu.
+        h.place i u hi hu
+        ∙ ap (λ (b : Bool). cond b at (get_or before (link_place i u) 0))
+        (by_place i n (λ e. rw e (simp (ne_eqb (received_in sizes words n s) number other, and-false))) (λ d. marks_same n i u (λ x y. d x)));
+  }
+
+  pub mark_next : (n : ℕ) (places : List ℕ) → n < most_cards → s < most_cards → link_place n s < length places → received_in sizes words n s ≡ number
+      → Marked sizes words s number at n before places → Marked sizes words s number at (n + 1) before (set places (link_place n s) at)
+  mark_next n places few hs inside same h = record {
+    size = length-set places (link_place n s) at ∙ h.size;
     place = λ i u hi hu.
         by_place (link_place i u) (link_place n s)
         (λ e.
         let ei : i ≡ n = omega arith in
         let es : u ≡ s = omega arith in
-        let old : get_or places (link_place n s) 0 ≡ get_or before (link_place n s) 0 = h.place n s few hs ∙ rw (le-ltb n n (le_refl n)) in
         rw (ei, es)
-        (get_or-set_same places (link_place n s) _ 0 inside ∙ rw (old, lt-ltb n (n + 1) (omega arith), eq-eqb s s refl)))
+        (get_or-set_same places (link_place n s) at 0 inside
+        ∙ rw (lt-ltb n (n + 1) (omega arith), eq-eqb s s refl, eq-eqb (received_in sizes words n s) number same)))
         (λ d.
-        get_or-set_other places (link_place n s) (link_place i u) _ 0 d ∙ h.place i u hi hu
+        get_or-set_other places (link_place n s) (link_place i u) at 0 d ∙ h.place i u hi hu
         ∙ ap (λ (b : Bool). cond b at (get_or before (link_place i u) 0)) (marks_same n i u (λ x y. d (omega arith))));
   }
 
@@ -240,15 +250,15 @@ module _ (sizes : Sizes) (words logs : List ℕ) (s : ℕ) (lent : Lent sizes wo
 
   module _ (before : List ℕ) (n at : ℕ) (places : List ℕ) (h : Finding sizes words logs s before n at places) where
     pub finding_next : (stop at' : ℕ) (places' : List ℕ) → NextStop sizes words s n (received_in sizes words s s) sizes.cards stop
-        → Walked log s n stop true at' → Marked sizes words s stop at' sizes.cards places places' → Finding sizes words logs s before stop at' places'
+        → Arrived log s n stop at' → Marked sizes words s stop at' sizes.cards places places' → Finding sizes words logs s before stop at' places'
     finding_next stop at' places' next walked m = record {
       within = next.within;
-      end = walked.place refl;
-      numbered = λ j l. by_le n j (λ low. walked.there refl j low l) (λ low. h.numbered j low);
+      end = walked.place;
+      numbered = λ j l. by_le n j (λ low. walked.there j low l) (λ low. h.numbered j low);
       size = m.size ∙ h.size;
       here = λ i hi l.
           by_place (received_in sizes words i s) stop
-          (λ e. marked_here stop at' places places' m i hi e ∙ walked.place refl ∙ rw e)
+          (λ e. marked_here stop at' places places' m i hi e ∙ walked.place ∙ rw e)
           (λ d. by_le (received_in sizes words i s) n
           (λ low. marked_there stop at' places places' m i hi d ∙ h.here i hi low)
           (λ high. let far = next.nearest i hi high in absurd (omega arith)));
@@ -301,32 +311,22 @@ module _ (sizes : Sizes) (words logs : List ℕ) (s : ℕ) (lent : Lent sizes wo
 
 -- ---- a sender at a time
 
--- of the first n senders
-pub record FoundBelow (sizes : Sizes) (words logs : List ℕ) (n : ℕ) (ok : Bool) (places : List ℕ) : Type 0 where
-  pub right : ok ≡ all_below n (log_right sizes.cards sizes.counters sizes.log_bytes (state_of words logs))
+-- of the first n senders, whose logs are right
+pub record FoundBelow (sizes : Sizes) (words logs : List ℕ) (n : ℕ) (places : List ℕ) : Type 0 where
+  pub right : (s : ℕ) → s < n → log_right sizes.cards sizes.counters sizes.log_bytes (state_of words logs) s ≡ true
   pub size : length places ≡ links
-  pub place : ok ≡ true → (i s : ℕ) → i < sizes.cards → s < n
-      → get_or places (link_place i s) 0 ≡ ends_in sizes.cards sizes.counters sizes.log_bytes (state_of words logs) i s
+  pub place : (i s : ℕ) → i < sizes.cards → s < n → get_or places (link_place i s) 0 ≡ ends_in sizes.cards sizes.counters sizes.log_bytes (state_of words logs) i s
 
 module _ (sizes : Sizes) (words logs : List ℕ) where
-  pub found_none : (places : List ℕ) → length places ≡ links → FoundBelow sizes words logs 0 true places
-  unfolding all_below
-  found_none places long = record { right = refl; size = long; place = λ _ i s hi hs. absurd (omega arith) }
+  -- one log is not right
+  pub found_wrong : (n : ℕ) (places places' : List ℕ) → n < sizes.cards → Found sizes words logs n places false places' → AllFound sizes words logs false places'
+  found_wrong n places places' below f = record { right = sym (below_fails sizes.cards _ n below (sym f.right)); places = λ e. absurd (false≢true e) }
 
-  pub found_more : (n : ℕ) (ok ok' : Bool) (places places' : List ℕ) → n < sizes.cards → FoundBelow sizes words logs n ok places
-      → Found sizes words logs n places ok' places' → FoundBelow sizes words logs (n + 1) (ok && ok') places'
-  unfolding all_below
-  found_more n ok ok' places places' below h f = record {
-    right = rw (add-one n, h.right, f.right);
-    size = f.size ∙ h.size;
-    place = λ e i s hi hs.
-        by_place s n
-        (λ x. rw x (f.here (and_right ok ok' e) i hi))
-        (λ d. f.others i s hi (omega arith) d ∙ h.place (and_left ok ok' e) i s hi (omega arith));
+  pub found_all : (n : ℕ) → sizes.cards ≤ n → (places : List ℕ) → FoundBelow sizes words logs n places → AllFound sizes words logs true places
+  found_all n end places h = record {
+    right = sym (below_from sizes.cards _ (λ s hs. h.right s (omega arith)));
+    places = λ _. record { size = h.size; place = λ i s hi hs. h.place i s hi (omega arith) };
   }
-
-  pub found_all : (ok : Bool) (places : List ℕ) → FoundBelow sizes words logs sizes.cards ok places → AllFound sizes words logs ok places
-  found_all ok places h = record { right = h.right; places = λ e. record { size = h.size; place = h.place e } }
 
 -- ---- a message that waits, of words and logs that pass the checks
 

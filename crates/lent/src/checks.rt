@@ -22,13 +22,7 @@ pub fn are_in_place(sizes: Sizes, words: &[u64]) -> bool
     requires { WordsFit sizes words.now × (1 ≤ sizes.counters) }
     ensures { result ≡ all_below sizes.cards (λ i. in_place sizes.cards sizes.counters i (replica_in sizes words.now i)) }
 {
-    let mut ok = true;
-    let mut card: usize = 0;
-    while card < sizes.cards {
-        ok = ok & is_card_in_place(sizes, words, card);
-        card += 1;
-    }
-    ok
+    (0..sizes.cards).all(|card| is_card_in_place(sizes, words, card))
 }
 
 fn are_card_rows_well_formed(sizes: Sizes, words: &[u64], card: usize) -> bool
@@ -45,11 +39,5 @@ pub fn are_rows_well_formed(sizes: Sizes, words: &[u64]) -> bool
     requires { WordsFit sizes words.now × InPlace sizes words.now }
     ensures { result ≡ all_below sizes.cards (λ i. all_below sizes.counters (row_well_formed (replica_in sizes words.now i))) }
 {
-    let mut ok = true;
-    let mut card: usize = 0;
-    while card < sizes.cards {
-        ok = ok & are_card_rows_well_formed(sizes, words, card);
-        card += 1;
-    }
-    ok
+    (0..sizes.cards).all(|card| are_card_rows_well_formed(sizes, words, card))
 }

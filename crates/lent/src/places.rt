@@ -1,60 +1,42 @@
 // Number 15's test. Each log is walked once; on the way the place of each link's next message is found.
-ghost use Rattle.std.specs.Prelude.{◌≡◌, cond, ◌+◌, ◌≤◌, ◌<◌, length, drop, leb};
+ghost use Rattle.std.specs.Prelude.{◌≡◌, IfSome, ◌+◌, ◌≤◌, ◌<◌, length, drop, leb};
+ghost use Rattle.wire.specs.Told.{unless_0};
 ghost use Rattle.protocol.specs.Functions.{all_below};
 ghost use Rattle.chassis_model.specs.Log.{end_of};
 ghost use Rattle.chassis_model.proofs.Places.{links};
 ghost use Rattle.chassis.specs.StepCodeLaws.{WordsFit};
-ghost use Rattle.lent.specs.Lent.{Lent, received_in, numbered_length, nearer, Walked, NextStop, Marked, Found, AllFound};
+ghost use Rattle.lent.specs.Lent.{Lent, received_in, numbered_length, Walked, NextStop, Marked, Found, AllFound};
 
 use chassis::{Sizes, stepping};
-use wire::{decode, reader};
+use wire::decode;
+use wire::reader::Reader;
 
-// The length of the message that stands from `at` on, if it is the sender's of this number; else 0.
-fn message_length(log: &[u8], at: usize, sender: usize, number: u64) -> usize
+// The length of the message that stands from `at` on, if it is the sender's of this number.
+fn message_length(log: &[u8], at: usize, sender: usize, number: u64) -> Option<usize>
     requires { at ≤ length log.now }
-    ensures { (result ≡ numbered_length sender number (drop at log.now)) × (at + result ≤ length log.now) }
+    ensures length { result ≡ unless_0 (numbered_length sender number (drop at log.now)) }
+    ensures inside { IfSome result (λ n. at + n ≤ length log.now) }
 {
     let rest = &log[at..];
-    let length = decode::front_length(rest, wire::VERSION_2);
-    if length == 0 {
-        return 0;
+    let length = decode::front_length(rest, wire::VERSION_2)?;
+    let header = Reader { src: rest, at: 0 }.header();
+    if header.sender as usize == sender && header.sequence == number {
+        Some(length)
+    } else {
+        None
     }
-    let header = reader::header_from(&rest[..length], 0);
-    if (header.sender as usize == sender) & (header.sequence == number) {
-        return length;
-    }
-    0
 }
 
-// How far a walk along a log came.
-#[derive(Clone, Copy)]
-struct WalkMade {
-    pub ok: bool,
-    pub at: usize,
-}
-
-// From the end of the sender's first `from` messages, which is at `at`, to the end of its first `to`.
-fn walk(log: &[u8], sender: usize, from: u64, to: u64, at: usize) -> WalkMade
+// From the end of the sender's first `from` messages, which is at `at`, to the end of its first `to`, if they are there.
+fn walk(log: &[u8], sender: usize, from: u64, to: u64, at: usize) -> Option<usize>
     requires { (at ≡ end_of from log.now) × (from ≤ to) }
-    ensures { Walked log.now sender from to result.ok result.at }
+    ensures { Walked log.now sender from to result }
 {
-    let mut n = from;
     let mut place = at;
-    while n < to {
-        let length = message_length(log, place, sender, n + 1);
-        if length == 0 {
-            return WalkMade {
-                ok: false,
-                at: place,
-            };
-        }
-        place += length;
-        n += 1;
+    for n in from..to {
+        place += message_length(log, place, sender, n + 1)?;
     }
-    WalkMade {
-        ok: true,
-        at: place,
-    }
+    Some(place)
 }
 
 // Has no card had more of the sender's messages than it has made?
@@ -62,23 +44,12 @@ fn is_none_ahead(sizes: Sizes, words: &[u64], sender: usize, made: u64) -> bool
     requires { WordsFit sizes words.now × (sender < sizes.cards) }
     ensures { result ≡ all_below sizes.cards (λ i. leb (received_in sizes words.now i sender) made) }
 {
-    let mut ok = true;
-    let mut receiver: usize = 0;
-    while receiver < sizes.cards {
-        ok = ok & (stepping::received(sizes, words, receiver, sender) <= made);
-        receiver += 1;
+    for receiver in 0..sizes.cards {
+        if made < stepping::received(sizes, words, receiver, sender) {
+            return false;
+        }
     }
-    ok
-}
-
-// `had` if that lies between `passed` and `stop`, else `stop`.
-fn nearer(had: u64, passed: u64, stop: u64) -> u64
-    ensures { result ≡ nearer had passed stop }
-{
-    if (passed < had) & (had < stop) {
-        return had;
-    }
-    stop
+    true
 }
 
 // The smallest number above `passed` of the sender's messages that some card has had, or `made`.
@@ -87,25 +58,13 @@ fn next_stop(sizes: Sizes, words: &[u64], sender: usize, passed: u64, made: u64)
     ensures { NextStop sizes words.now sender passed made sizes.cards result }
 {
     let mut stop = made;
-    let mut receiver: usize = 0;
-    while receiver < sizes.cards {
-        stop = nearer(
-            stepping::received(sizes, words, receiver, sender),
-            passed,
-            stop,
-        );
-        receiver += 1;
+    for receiver in 0..sizes.cards {
+        let had = stepping::received(sizes, words, receiver, sender);
+        if passed < had {
+            stop = stop.min(had);
+        }
     }
     stop
-}
-
-fn chosen(yes: bool, a: u64, b: u64) -> u64
-    ensures { result ≡ cond yes a b }
-{
-    if yes {
-        return a;
-    }
-    b
 }
 
 // The next message of every card that has had `number` of the sender's messages stands at `at`.
@@ -120,12 +79,10 @@ fn mark(
     requires { WordsFit sizes words.now × (sender < sizes.cards) × (length places.old ≡ links) }
     ensures { Marked sizes words.now sender number at sizes.cards places.old places.new }
 {
-    let mut receiver: usize = 0;
-    while receiver < sizes.cards {
-        let had = stepping::received(sizes, words, receiver, sender);
-        let which = stepping::link(receiver, sender);
-        places[which] = chosen(had == number, at, places[which]);
-        receiver += 1;
+    for receiver in 0..sizes.cards {
+        if stepping::received(sizes, words, receiver, sender) == number {
+            places[stepping::link(receiver, sender)] = at;
+        }
     }
 }
 
@@ -145,19 +102,18 @@ fn find_places(
         return false;
     }
     let start = sender * sizes.log_bytes;
-    let end = start + sizes.log_bytes;
+    let log = &logs[start..start + sizes.log_bytes];
     mark(sizes, words, sender, 0, 0, places);
     let mut n: u64 = 0;
     let mut at: usize = 0;
     while n < made {
         let stop = next_stop(sizes, words, sender, n, made);
-        let walked = walk(&logs[start..end], sender, n, stop, at);
-        if !walked.ok {
+        let Some(place) = walk(log, sender, n, stop, at) else {
             return false;
-        }
-        mark(sizes, words, sender, stop, walked.at as u64, places);
+        };
+        mark(sizes, words, sender, stop, place as u64, places);
         n = stop;
-        at = walked.at;
+        at = place;
     }
     true
 }
@@ -172,11 +128,10 @@ pub fn find_all_places(
     requires { Lent sizes words.now logs.now × (length places.old ≡ links) }
     ensures { AllFound sizes words.now logs.now result places.new }
 {
-    let mut ok = true;
-    let mut sender: usize = 0;
-    while sender < sizes.cards {
-        ok = ok & find_places(sizes, words, logs, sender, places);
-        sender += 1;
+    for sender in 0..sizes.cards {
+        if !find_places(sizes, words, logs, sender, places) {
+            return false;
+        }
     }
-    ok
+    true
 }

@@ -1,11 +1,12 @@
 -- LAWS. The fields of a line, the sizes of a right input, the words of a run that begins with zeros, and which bytes decide a listing.
-use Rattle.std.specs.Prelude.{ℕ, zero, suc, ◌-◌, ◌*◌, ◌/◌, ◌%◌, ◌≤◌, ◌≡◌, refl, List, ◌∷◌, ◌++◌, Bool, true, false, ◌&&◌, leb, eqb, length, take, drop, replicate}
-use Rattle.std.proofs.Common.{sym, ap, ◌∙◌, append_assoc, mul-le-mul, not-suc-le-zero, le_of_suc-le-suc, arith, leb-true, length-drop, take_all, length-take-le}
-use Rattle.std.proofs.lemmas.List.{length-replicate}
+use Rattle.std.specs.Prelude.{ℕ, zero, suc, ◌+◌, ◌-◌, ◌*◌, ◌/◌, ◌%◌, ◌≤◌, ◌<◌, ◌≡◌, refl, List, ◌∷◌, ◌++◌, Bool, true, false, ◌&&◌, leb, eqb, length, take, drop, replicate}
+use Rattle.std.proofs.Common.{sym, ap, ◌∙◌, add-one, append_assoc, mul-le-mul, not-suc-le-zero, le_of_suc-le-suc, arith, leb-true, length-append, length-drop, drop-drop, take_all, length-take-le, take_at, drop_at}
+use Rattle.std.proofs.Math.Nat.{mul-le-mul_right, suc-mul}
 use Rattle.std.proofs.Math.Seq.{take-length}
 use Rattle.protocol.proofs.Cases.{by_le, and_left, and_right, not_yes}
 use Rattle.replica_model.specs.declared.Reading.{Reading}
 use Rattle.replica_model.specs.Layout.{replica_length}
+use Rattle.chassis_model.specs.ListParts.{part}
 use Rattle.chassis_model.specs.Run.{answer_length, step_length, RunOutcome, run_bytes_on}
 use Rattle.text.specs.Decimal.{decimal}
 use Rattle.listing.specs.Listing.{comma, crlf, refused_11, quiet, line, most_listed_cards, most_listed_counters, most_listed_steps, log_bytes, sizes_length, given_cards, given_counters, given_steps, input_bytes, input_right, run_words, run_listing, listing_of}
@@ -70,9 +71,6 @@ take_replicate zero m a h = refl
 take_replicate (suc n) zero a h = absurd (not-suc-le-zero h)
 take_replicate {A} (suc n) (suc m) a h = ap (λ (l : List A). a ∷ l) (take_replicate n m a (le_of_suc-le-suc h))
 
-pub length_front_zeros : {A : Type 0} (n m : ℕ) (a : A) → n ≤ m → n ≡ length (take n (replicate m a))
-length_front_zeros n m a h = sym (ap length (take_replicate n m a h) ∙ length-replicate n a)
-
 -- a run of words, logs and answers that hold zeros leaves the words of `run_words`
 pub run_words_are : (r k : ℕ) (steps words logs answers words' logs' answers' : List ℕ) (number : ℕ)
     → words ≡ replicate {A = ℕ} (r * replica_length r k) 0 → logs ≡ replicate {A = ℕ} (r * log_bytes) 0 → answers ≡ replicate {A = ℕ} (answer_length * (length steps / step_length)) 0
@@ -81,6 +79,32 @@ pub run_words_are : (r k : ℕ) (steps words logs answers words' logs' answers' 
 unfolding run_words
 run_words_are r k steps words logs answers words' logs' answers' number zero_words zero_logs zero_answers outcome =
     ap (λ (o : RunOutcome). o.words) outcome ∙ rw (zero_words, zero_logs, zero_answers)
+
+-- ---- the replicas
+
+-- the part that is next, where the cards before have theirs behind them
+pub next_part : (size card : ℕ) (words b rest : List ℕ) → drop (card * size) words ≡ b ++ rest → length b ≡ size
+    → (b ≡ part size words card) × (rest ≡ drop ((card + 1) * size) words)
+unfolding part
+next_part size card words b rest parts long =
+    let next : card * size + size ≡ (card + 1) * size = omega (arith, suc-mul card size, add-one card) in (
+      rw parts (sym (take_at b rest size long)),
+      rw (← next, ← drop-drop size (card * size) words, parts) (sym (drop_at b rest size long)),
+    )
+
+-- a card whose part is there is one of the cards
+pub part_inside : (size card r : ℕ) (words b rest : List ℕ) → drop (card * size) words ≡ b ++ rest → length b ≡ size → 0 < size → r * size ≡ length words → card < r
+part_inside size card r words b rest parts long some all =
+    by_le r card
+    (λ past. absurd (omega (arith, mul-le-mul_right size past, length-drop (card * size) words, ap length parts, length-append b rest)))
+    (λ inside. inside)
+
+-- a card is the last where what is left is no part
+pub parts_end : (size card r : ℕ) (words : List ℕ) → card ≤ r → length (drop (card * size) words) < size → r * size ≡ length words → card ≡ r
+parts_end size card r words few short all =
+    by_le r card
+    (λ past. omega arith)
+    (λ inside. absurd (omega (arith, mul-le-mul_right size inside, suc-mul card size, length-drop (card * size) words)))
 
 -- ---- the listing
 

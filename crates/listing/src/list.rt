@@ -1,9 +1,10 @@
 // The listing of a run whose sizes and steps are given as bytes.
-ghost use Rattle.std.specs.Prelude.{◌≡◌, ℕ, ◌*◌, ◌≤◌, length, take, replicate};
+ghost use Rattle.std.specs.Prelude.{◌≡◌, ℕ, ◌+◌, ◌*◌, ◌≤◌, true, false, length, take, replicate, MatchOption};
 ghost use Rattle.wire.specs.Message.{over};
 ghost use Rattle.replica_model.specs.Layout.{replica_length};
 ghost use Rattle.text.specs.Put.{Put};
-ghost use Rattle.listing.specs.Listing.{input_right, run_words, run_listing, listing_of};
+ghost use Rattle.text.specs.OutputLaws.{SameBytes};
+ghost use Rattle.listing.specs.Listing.{given_cards, given_counters, given_steps, input_right, run_words, run_listing, listing_of};
 ghost use Rattle.listing.specs.Sizes.{listing_bytes, Listable};
 
 use crate::lines;
@@ -11,7 +12,8 @@ use chassis::run;
 use chassis::stepping::ANSWER_WORDS;
 use chassis::steps::STEP_BYTES;
 use layout::words;
-use wire::number;
+use text::Output;
+use wire::number::{INT_BYTES, Unsigned};
 
 // "r <= 4, k <= 8, at most 256 steps, L = 4,096"
 const MOST_LISTED_CARDS: usize = 4;
@@ -23,9 +25,9 @@ const MOST_LISTED_STEPS: usize = 256;
 const LOG_BYTES: usize = 4096;
 
 // r and k, an unsigned int each, stand before the steps.
-const COUNTERS_AT: usize = 4;
+const COUNTERS_AT: usize = INT_BYTES;
 
-const STEPS_AT: usize = 8;
+const STEPS_AT: usize = 2 * INT_BYTES;
 
 // The words of the largest run. A replica's length is that of `words::replica_words`, which the value of a constant cannot call.
 const MOST_WORDS: usize = MOST_LISTED_CARDS
@@ -46,38 +48,56 @@ pub const LISTING_BYTES: usize = HEADER_BYTES
 
 const REFUSED: [u8; 12] = *b"refused,11\r\n";
 
-fn is_right(input: &[u8]) -> bool
-    ensures { result ≡ input_right input.now }
+// An input whose sizes are right: r, k and the steps.
+#[derive(Clone, Copy)]
+struct Input<'a> {
+    cards: usize,
+    counters: usize,
+    steps: &'a [u8],
+}
+
+fn input_of(bytes: &[u8]) -> Option<Input<'_>>
+    ensures { MatchOption result (input_right bytes.now ≡ false) (λ input. (input_right bytes.now ≡ true) × (input.cards ≡ given_cards bytes.now) × (input.counters ≡ given_counters bytes.now) × (input.steps.now ≡ given_steps bytes.now)) }
 {
-    if input.len() < STEPS_AT {
-        return false;
+    if bytes.len() < STEPS_AT {
+        return None;
     }
-    let cards = number::read_u32(input, 0) as usize;
-    let counters = number::read_u32(input, COUNTERS_AT) as usize;
-    let steps = input.len() - STEPS_AT;
-    (1 <= cards)
+    let cards = u32::read(bytes, 0) as usize;
+    let counters = u32::read(bytes, COUNTERS_AT) as usize;
+    let steps = &bytes[STEPS_AT..];
+    let is_right = (1 <= cards)
         & (cards <= MOST_LISTED_CARDS)
         & (1 <= counters)
         & (counters <= MOST_LISTED_COUNTERS)
-        & (steps % STEP_BYTES == 0)
-        & (steps <= STEP_BYTES * MOST_LISTED_STEPS)
+        & (steps.len() % STEP_BYTES == 0)
+        & (steps.len() <= STEP_BYTES * MOST_LISTED_STEPS);
+    if is_right {
+        Some(Input {
+            cards,
+            counters,
+            steps,
+        })
+    } else {
+        None
+    }
 }
 
 // The run's words. Its logs and answers are not listed.
-fn run_steps(cards: usize, counters: usize, steps: &[u8], words: &mut [u64])
-    requires { Listable cards counters steps.now × (words.old ≡ replicate {A = ℕ} (cards * replica_length cards counters) 0) }
-    ensures { words.new ≡ run_words cards counters steps.now }
+fn run_steps(input: Input, words: &mut [u64])
+    requires { Listable input.cards input.counters input.steps.now × (words.old ≡ replicate {A = ℕ} (input.cards * replica_length input.cards input.counters) 0) }
+    ensures { words.new ≡ run_words input.entry.cards input.entry.counters input.entry.steps.now }
 {
     let mut logs: [u8; MOST_LISTED_CARDS * LOG_BYTES] = [0; MOST_LISTED_CARDS * LOG_BYTES];
     let mut answers: [u64; ANSWER_WORDS * MOST_LISTED_STEPS] = [0; ANSWER_WORDS
         * MOST_LISTED_STEPS];
-    let log_end = cards * LOG_BYTES;
-    let answers_end = ANSWER_WORDS * (steps.len() / STEP_BYTES);
-    run::run(
-        cards as u64,
-        counters as u64,
+    let log_end = input.cards * LOG_BYTES;
+    let answers_end = ANSWER_WORDS * (input.steps.len() / STEP_BYTES);
+    // What the run answers is left unread: `run_words` is of the words alone.
+    let _ = run::run(
+        input.cards as u64,
+        input.counters as u64,
         LOG_BYTES as u64,
-        steps,
+        input.steps,
         words,
         &mut logs[..log_end],
         &mut answers[..answers_end],
@@ -85,23 +105,25 @@ fn run_steps(cards: usize, counters: usize, steps: &[u8], words: &mut [u64])
 }
 
 // "opens with the line card,counter,value,holders,quiet. Then one line for each card and counter"
-fn put_run(cards: usize, counters: usize, steps: &[u8], words: &mut [u64], out: &mut [u8]) -> usize
-    requires { Listable cards counters steps.now × (words.old ≡ replicate {A = ℕ} (cards * replica_length cards counters) 0) × (listing_bytes ≤ length out.old) }
-    ensures { Put listing_bytes out.old 0 (run_listing cards counters steps.now) out.new result }
+fn put_run(input: Input, words: &mut [u64], out: &mut Output)
+    requires { Listable input.cards input.counters input.steps.now × (words.old ≡ replicate {A = ℕ} (input.cards * replica_length input.cards input.counters) 0) × (out.old.len + listing_bytes ≤ length out.old.bytes.now) }
+    ensures put { Put listing_bytes out.old.bytes.now out.old.len (run_listing input.entry.cards input.entry.counters input.entry.steps.now) out.new.bytes.now out.new.len }
+    ensures same_bytes { SameBytes out.old out.new }
 {
-    run_steps(cards, counters, steps, words);
-    let lines_at = text::put_text(&HEADER, out, 0);
-    lines::put_lines(cards, counters, words, out, lines_at)
+    run_steps(input, words);
+    out.put_text(&HEADER);
+    lines::put_lines(input.cards, input.counters, words, out);
 }
 
 // Lends the run its words: the first r replicas' of those that the largest run takes.
-fn put_listing(cards: usize, counters: usize, steps: &[u8], out: &mut [u8]) -> usize
-    requires { Listable cards counters steps.now × (listing_bytes ≤ length out.old) }
-    ensures { Put listing_bytes out.old 0 (run_listing cards counters steps.now) out.new result }
+fn put_listing(input: Input, out: &mut Output)
+    requires { Listable input.cards input.counters input.steps.now × (out.old.len + listing_bytes ≤ length out.old.bytes.now) }
+    ensures put { Put listing_bytes out.old.bytes.now out.old.len (run_listing input.entry.cards input.entry.counters input.entry.steps.now) out.new.bytes.now out.new.len }
+    ensures same_bytes { SameBytes out.old out.new }
 {
     let mut words: [u64; MOST_WORDS] = [0; MOST_WORDS];
-    let end = cards * words::replica_words(cards, counters);
-    put_run(cards, counters, steps, &mut words[..end], out)
+    let end = input.cards * words::replica_words(input.cards, input.counters);
+    put_run(input, &mut words[..end], out);
 }
 
 // Writes the listing of the run that the input gives, or the refusal, to the front of `out`, and returns its length. Every input has an answer;
@@ -111,10 +133,10 @@ pub fn list(input: &[u8], out: &mut [u8; LISTING_BYTES]) -> usize
     ensures listed { (out.new ≡ over (listing_of input.now) out.old) × (result ≡ length (listing_of input.now)) }
     ensures counted { (result ≤ length out.new) × (result ≡ length (take result out.new)) }
 {
-    if !is_right(input) {
-        return text::put_text(&REFUSED, out, 0);
+    let mut listing = Output { bytes: out, len: 0 };
+    match input_of(input) {
+        Some(right) => put_listing(right, &mut listing),
+        None => listing.put_text(&REFUSED),
     }
-    let cards = number::read_u32(input, 0) as usize;
-    let counters = number::read_u32(input, COUNTERS_AT) as usize;
-    put_listing(cards, counters, &input[STEPS_AT..], out)
+    listing.len
 }

@@ -1,12 +1,15 @@
 -- LAWS. The rounds of the code are those of `deliver_pending` by its open links (`RoundRobinOpen` of protocol): the list of open links, one turn, a round, all
 -- rounds.
-use Rattle.std.specs.Prelude.{ℕ, suc, ◌+◌, ◌-◌, ◌*◌, ◌/◌, ◌%◌, ◌≤◌, ◌<◌, ◌≡◌, Bool, true, false, not, cond, ◌&&◌, ◌⊎◌, eqb, ltb, length, take, drop, set, get_or}
+use Rattle.protocol.proofs.RefusalLaws.{refusal_some}
+use Rattle.std.specs.Prelude.{ℕ, suc, ◌+◌, ◌-◌, ◌*◌, ◌/◌, ◌%◌, ◌≤◌, ◌<◌, ◌≡◌, Bool, true, false, not, cond, ◌&&◌, ◌⊎◌, eqb, ltb, Result, is_err, length, take, drop, set, get_or}
 use Rattle.std.proofs.Math.Path.{refl, sym}
-use Rattle.std.proofs.Common.{ap, ◌∙◌, true≢false, inl, inr, mul-le-mul, mul-le-mul_right, suc-mul, add-one, arith, length-set, take-suc-set, drop-set-lt, drop-cons, length-take-le, lt-ltb, le-ltb, eq-eqb, ne_eqb}
+use Rattle.std.proofs.Common.{ap, ◌∙◌, inl, inr, mul-le-mul, add-one, arith, length-set, take-suc-set, drop-set-lt, drop-cons, length-take-le, lt-ltb, le-ltb, le_refl, eq-eqb, ne_eqb}
 use mathlib.Core.List.{List, [], ◌∷◌, ◌++◌, map-append, append_assoc, append-nil}
-use Rattle.std.proofs.lemmas.List.{length-map, take-set-le}
+use Rattle.std.proofs.lemmas.List.{length-map}
 use Rattle.protocol.specs.Limits.{most_cards}
-use Rattle.protocol.proofs.Cases.{by_le, by_test, and_yes}
+use Rattle.protocol.proofs.Cases.{by_le, by_place}
+use Rattle.protocol.specs.declared.Refusal.{Refusal}
+use Rattle.protocol.specs.Refusals.{number_of, number_in}
 use Rattle.protocol.specs.RoundRobin.{Link, link, Orderly}
 use Rattle.protocol.proofs.RoundRobinOpen.{waiting_to, waiting_links, Served, serve, serve_none, serve_full, serve_room, serve_less, visits_next, Serving, serving_begins, serving_visits, serving_next, serving_done}
 use Rattle.wire.specs.Message.{version_2, called_length}
@@ -20,7 +23,10 @@ use Rattle.chassis.specs.declared.stepping.Handed.{Handed}
 use Rattle.chassis.specs.StepCodeLaws.{HandReady, HandedOver}
 use Rattle.lent.specs.Lent.{received_in, PumpReady}
 use Rattle.lent.specs.PlacesLaws.{numbered_waits, end_behind}
-use Rattle.pending.specs.Rounds.{link_of, links_in, links_of, Pushed, ListedTo, Listed, is_made, stays_open, TurnReady, TurnDone, AllVisit, RoundReady, RoundDone, PumpDone}
+use Rattle.pending.specs.declared.rounds.OpenLinks.{OpenLinks}
+use Rattle.pending.specs.declared.rounds.Turn.{Turn}
+use Rattle.pending.specs.declared.rounds.Turn.TheVariants.{Declined, Open, Done}
+use Rattle.pending.specs.Rounds.{link_of, links_in, links_of, listed, pushed, ListedTo, Listed, was_taken, is_open, TurnReady, TurnDone, AllVisit, RoundReady, RoundDone, PumpDone}
 
 -- ---- links as numbers
 
@@ -35,19 +41,8 @@ number_back which = omega arith
 
 -- ---- the list of open links
 
-pub pushed_on : (which count : ℕ) (numbers : List ℕ) → count < length numbers → Pushed which true count numbers (count + 1) (set numbers count which)
-pushed_on which count numbers room = record {
-  size = length-set numbers count which;
-  n_is = refl;
-  list = rw (add-one count) (take-suc-set numbers count which room);
-}
-
-pub not_pushed : (which count : ℕ) (numbers : List ℕ) → Pushed which false count numbers count (set numbers count which)
-not_pushed which count numbers = record {
-  size = length-set numbers count which;
-  n_is = refl;
-  list = take-set-le count numbers count which (omega arith) ∙ sym (append-nil (take count numbers));
-}
+pub pushed_list : (which : ℕ) (list : OpenLinks) → list.count < length list.numbers → listed (pushed which list) ≡ listed list ++ (which ∷ [])
+pushed_list which list room = rw (add-one list.count) (take-suc-set list.numbers list.count which room)
 
 -- one waits where more was made than had
 waits_test : (made had : ℕ) → ltb 0 (made - had) ≡ ltb had made
@@ -56,51 +51,66 @@ waits_test made had =
     (λ l. rw (le-ltb had made l, le-ltb 0 (made - had) (omega arith)))
     (λ l. rw (lt-ltb had made l, lt-ltb 0 (made - had) (omega arith)))
 
-links_pushed : (waits : Bool) (i s : ℕ) → s < most_cards → links_in (cond waits (link_place i s ∷ []) []) ≡ cond waits (link i s ∷ []) []
-links_pushed true i s few = rw (link_back i s few)
-links_pushed false i s few = refl
+-- none waits on a card's link to itself
+waits_between : (i s : ℕ) (n : ℕ → ℕ) → not (eqb i s) && ltb (n i) (n s) ≡ ltb (n i) (n s)
+waits_between i s n = by_place i s (λ e. rw (e, le-ltb (n s) (n s) (le_refl (n s)), eq-eqb s s refl)) (λ d. rw (ne_eqb i s d))
 
 module _ (sizes : Sizes) (words : List ℕ) where
-  pub to_none : (i count : ℕ) (numbers : List ℕ) → ListedTo sizes words i 0 count numbers count numbers
+  module _ (i s : ℕ) (before after : OpenLinks) (h : ListedTo sizes words i s before after) where
+    -- whether one waits on the link from sender s
+    abbrev waits : Bool
+    waits = ltb (received_in sizes words i s) (received_in sizes words s s)
+
+    to_more : (logs : List ℕ) → waiting_to (links_of sizes) sizes.cards i (s + 1) (state_of words logs)
+        ≡ waiting_to (links_of sizes) sizes.cards i s (state_of words logs) ++ cond waits (link i s ∷ []) []
+    unfolding waiting_to
+    to_more logs =
+        rw (add-one s)
+        (ap (λ (t : Bool). waiting_to (links_of sizes) sizes.cards i s (state_of words logs) ++ cond t (link i s ∷ []) [])
+        (rw (waits_test (received_in sizes words s s) (received_in sizes words i s)) (waits_between i s (λ j. received_in sizes words j s))))
+
+    pub to_pushed : s < most_cards → after.count < length after.numbers → waits ≡ true → ListedTo sizes words i (s + 1) before (pushed (link_place i s) after)
+    to_pushed few room some = record {
+      size = length-set after.numbers after.count (link_place i s) ∙ h.size;
+      few = let low = h.few in omega arith;
+      links_are = λ logs.
+          rw (pushed_list (link_place i s) after room, map-append link_of (listed after) (link_place i s ∷ []), link_back i s few, h.links_are logs, to_more logs, some)
+          (append_assoc (links_in (listed before)) (waiting_to (links_of sizes) sizes.cards i s (state_of words logs)) (link i s ∷ []));
+    }
+
+    pub to_passed : waits ≡ false → ListedTo sizes words i (s + 1) before after
+    to_passed none = record {
+      size = h.size;
+      few = let low = h.few in omega arith;
+      links_are = λ logs. h.links_are logs ∙ rw (to_more logs, none, append-nil (waiting_to (links_of sizes) sizes.cards i s (state_of words logs)));
+    }
+
+  pub to_none : (i : ℕ) (list : OpenLinks) → ListedTo sizes words i 0 list list
   unfolding waiting_to
-  to_none i count numbers = record { size = refl; few = omega arith; list = λ logs. sym (append-nil (links_in (take count numbers))) }
+  to_none i list = record { size = refl; few = omega arith; links_are = λ logs. sym (append-nil (links_in (listed list))) }
 
-  pub to_next : (i s count : ℕ) (numbers : List ℕ) (n : ℕ) (numbers' : List ℕ) (waits : Bool) (n' : ℕ) (numbers'' : List ℕ) → s < most_cards
-      → waits ≡ not (eqb i s) && ltb (received_in sizes words i s) (received_in sizes words s s)
-      → ListedTo sizes words i s count numbers n numbers' → Pushed (link_place i s) waits n numbers' n' numbers''
-      → ListedTo sizes words i (s + 1) count numbers n' numbers''
-  unfolding waiting_to
-  to_next i s count numbers n numbers' waits n' numbers'' few test h p = record {
-    size = p.size ∙ h.size;
-    few = let a = h.few in rw p.n_is (by_test waits (λ e. rw e (omega arith)) (λ e. rw e (omega arith)));
-    list = λ logs.
-        rw (add-one s, p.list, map-append link_of (take n numbers') (cond waits (link_place i s ∷ []) []), links_pushed waits i s few, h.list logs)
-        (append_assoc (links_in (take count numbers)) (waiting_to (links_of sizes) sizes.cards i s (state_of words logs)) (cond waits (link i s ∷ []) [])
-        ∙ rw (waits_test (received_in sizes words s s) (received_in sizes words i s), test));
-  }
-
-  pub listed_none : (numbers : List ℕ) → length numbers ≡ links → Listed sizes words 0 0 numbers
+  pub listed_none : (numbers : List ℕ) → length numbers ≡ links → Listed sizes words 0 (record { numbers = numbers; count = 0 })
   unfolding waiting_links
-  listed_none numbers long = record { size = long; few = omega arith; list = λ logs. refl }
+  listed_none numbers long = record { size = long; few = omega arith; links_are = λ logs. refl }
 
-  pub listed_next : (i n : ℕ) (numbers : List ℕ) (n' : ℕ) (numbers' : List ℕ) → Listed sizes words i n numbers → ListedTo sizes words i sizes.cards n numbers n' numbers'
-      → Listed sizes words (i + 1) n' numbers'
+  pub listed_next : (i : ℕ) (list list' : OpenLinks) → Listed sizes words i list → ListedTo sizes words i sizes.cards list list' → Listed sizes words (i + 1) list'
   unfolding waiting_links
-  listed_next i n numbers n' numbers' h p = record {
+  listed_next i list list' h p = record {
     size = p.size ∙ h.size;
     few = let a = h.few in let b = p.few in omega arith;
-    list = λ logs. rw (add-one i, p.list logs, h.list logs);
+    links_are = λ logs. rw (add-one i, p.links_are logs, h.links_are logs);
   }
 
--- the links to one receiver more have room in the list
-pub list_room : (n i r : ℕ) → n ≤ i * r → i < r → r ≤ most_cards → n + r ≤ links
-list_room n i r few below small =
-    let rows : suc i * r ≤ r * r = mul-le-mul_right r below in
-    let all : r * r ≤ most_cards * most_cards = mul-le-mul small small in
-    let next = suc-mul i r in
-    omega arith
-
 -- ---- one turn
+
+-- the answer's number says whether the message was taken
+err_number : (taken : Result ℕ Refusal) → is_err taken ≡ true → eqb (number_in taken) 0 ≡ false
+err_number (Result.Ok sequence) err = cc
+err_number (Result.Err refusal) err = ne_eqb (number_of refusal) 0 (refusal_some refusal)
+
+ok_number : (taken : Result ℕ Refusal) → is_err taken ≡ false → eqb (number_in taken) 0 ≡ true
+ok_number (Result.Ok sequence) fine = refl
+ok_number (Result.Err refusal) fine = cc
 
 module _ (sizes : Sizes) (which : ℕ) (words logs places : List ℕ) (h : TurnReady sizes which words logs places) where
   abbrev r : ℕ
@@ -121,9 +131,6 @@ module _ (sizes : Sizes) (which : ℕ) (words logs places : List ℕ) (h : TurnR
   abbrev st : State
   st = state_of words logs
 
-  pub turn_below : which < links
-  turn_below = let few = h.ready.words_fit.few_cards in let below = h.is_link.0 in omega arith
-
   place_is : get_or places which 0 ≡ ends_in r k L st i s
   place_is = rw (number_back which) at (h.ready.places_are.place i s h.is_link.0 h.is_link.1)
 
@@ -143,12 +150,12 @@ module _ (sizes : Sizes) (which : ℕ) (words logs places : List ℕ) (h : TurnR
     state_then : (delivered r k L i s st).state ≡ state_of words' logs
     state_then = ap (λ stepped. stepped.state) (sym done.outcome)
 
-    number_then : (delivered r k L i s st).answer.number ≡ handed.number
+    number_then : (delivered r k L i s st).answer.number ≡ number_in handed.taken
     number_then = ap (λ stepped. stepped.answer.number) (sym done.outcome)
 
-    pub turn_declined : (handed.number ≡ 0 → ⊥) → TurnDone sizes which words logs 0 0 words' places
-    turn_declined some =
-        let refused : eqb (delivered r k L i s st).answer.number 0 ≡ false = rw number_then (ne_eqb handed.number 0 some) in
+    pub turn_declined : is_err handed.taken ≡ true → TurnDone sizes which words logs Declined words' places
+    turn_declined err =
+        let refused : eqb (delivered r k L i s st).answer.number 0 ≡ false = rw number_then (err_number handed.taken err) in
         let same : state_of words' logs ≡ st = sym state_then ∙ (checked_orderly r k L).declined_stays i s st h.is_link h.ready.checked some_wait refused in
         let words_same : words' ≡ words = ap (λ state. state.words) same in
         record {
@@ -158,9 +165,9 @@ module _ (sizes : Sizes) (which : ℕ) (words logs places : List ℕ) (h : TurnR
           open_is = rw refused;
         }
 
-    module _ (none : handed.number ≡ 0) where
+    module _ (fine : is_err handed.taken ≡ false) where
       taken : eqb (delivered r k L i s st).answer.number 0 ≡ true
-      taken = rw number_then (eq-eqb handed.number 0 none)
+      taken = rw number_then (ok_number handed.taken fine)
 
       checked_then : Checked r k L (state_of words' logs)
       checked_then = rw state_then at (checked_after r k L i s st h.is_link h.ready.checked some_wait taken)
@@ -181,27 +188,21 @@ module _ (sizes : Sizes) (which : ℕ) (words logs places : List ℕ) (h : TurnR
             rw (done.behind, place_is) (rw (number_back which) at moved);
       }
 
-      pub turn_taken : (kept : ℕ) → kept ≡ cond (ltb (received_in sizes words' i s) (received_in sizes words' s s)) 1 0
-          → TurnDone sizes which words logs 1 kept words' (set places which handed.behind)
-      turn_taken kept more = record {
+      pub turn_open : ltb (received_in sizes words' i s) (received_in sizes words' s s) ≡ true → TurnDone sizes which words logs Open words' (set places which handed.behind)
+      turn_open more = record {
         ready = turn_ready;
         state_is = state_then;
-        made_is = rw taken;
-        open_is = rw (taken, waits_test (received_in sizes words' s s) (received_in sizes words' i s)) more;
+        made_is = sym taken;
+        open_is = rw (taken, waits_test (received_in sizes words' s s) (received_in sizes words' i s), more);
       }
 
-pub turn_small : (sizes : Sizes) (which : ℕ) (words logs : List ℕ) (made kept : ℕ) (words' places' : List ℕ) → TurnDone sizes which words logs made kept words' places'
-    → (made ≤ 1) × (kept ≤ 1)
-turn_small sizes which words logs made kept words' places' done = (rw done.made_is (bit (is_made sizes which words logs)), rw done.open_is (bit (stays_open sizes which words logs words')))
-  where
-    bit : (t : Bool) → cond t 1 0 ≤ 1
-    bit true = omega arith
-    bit false = omega arith
-
--- ---- where a loop ends that goes on while two numbers are below their ends
-
-pub one_at_end : (a b c d : ℕ) → ltb a b && ltb c d ≡ false → (b ≤ a) ⊎ (d ≤ c)
-one_at_end a b c d e = by_le b a inl (λ l. by_le d c inr (λ m. absurd (true≢false (sym (and_yes (ltb a b) (ltb c d) (lt-ltb a b l) (lt-ltb c d m)) ∙ e))))
+      pub turn_done : ltb (received_in sizes words' i s) (received_in sizes words' s s) ≡ false → TurnDone sizes which words logs Done words' (set places which handed.behind)
+      turn_done more = record {
+        ready = turn_ready;
+        state_is = state_then;
+        made_is = sym taken;
+        open_is = rw (taken, waits_test (received_in sizes words' s s) (received_in sizes words' i s), more);
+      }
 
 -- ---- a round
 
@@ -241,23 +242,9 @@ module _ (sizes : Sizes) (b : ℕ) where
       pub made_is : (over (left count next numbers) n (state_of words logs)).count ≡ whole.count
       pub open_are : links_in (take kept numbers) ++ (over (left count next numbers) n (state_of words logs)).open_links ≡ whole.open_links
 
-    pub rounding_begins : (places : List ℕ) → RoundReady sizes b count words₀ logs places numbers₀ → Rounding words₀ places numbers₀ made 0 0
-    rounding_begins places g =
-        let all : count - 0 ≡ count = omega arith in
-        record {
-          ready = g.ready;
-          size = g.size;
-          few = g.few;
-          behind = omega arith;
-          within = omega arith;
-          visits = rw all g.visits;
-          state_is = rw all;
-          made_is = rw all;
-          open_are = rw all;
-        }
-
     module _ (words places numbers : List ℕ) (n kept next : ℕ) (h : Rounding words places numbers n kept next) where
-      pub rounding_done : (count ≤ next) ⊎ (b ≤ n) → RoundDone sizes b made count words₀ logs numbers₀ n kept words places numbers
+      pub rounding_done : (count ≤ next) ⊎ (b ≤ n)
+          → RoundDone sizes b made words₀ logs (record { numbers = numbers₀; count = count }) n words places (record { numbers = numbers; count = kept })
       rounding_done end =
           let over_now : over (left count next numbers) n (state_of words logs) ≡ record { state = state_of words logs; count = n; open_links = [] } = ended end in
           record {
@@ -296,47 +283,46 @@ module _ (sizes : Sizes) (b : ℕ) where
           waits = let w = first_visits.wait.0.1 in omega arith;
         }
 
-        module _ (room : n < b) (m o : ℕ) (words' places' : List ℕ) (done : TurnDone sizes which words logs m o words' places') where
-          abbrev still_open : Bool
-          still_open = stays_open sizes which words logs words'
+        module _ (room : n < b) (turn : Turn) (words' places' : List ℕ) (done : TurnDone sizes which words logs turn words' places') where
+          abbrev counted : ℕ
+          counted = cond (was_taken turn) (n + 1) n
 
           abbrev rest : Served (links_of sizes) sizes.cards b
-          rest = over others (n + m) (state_of words' logs)
+          rest = over others counted (state_of words' logs)
 
           first_served : over (left count next numbers) n (state_of words logs)
-              ≡ record { state = rest.state; count = rest.count; open_links = cond still_open (link_of which ∷ rest.open_links) rest.open_links }
+              ≡ record { state = rest.state; count = rest.count; open_links = cond (is_open turn) (link_of which ∷ rest.open_links) rest.open_links }
           first_served =
-              let accepted : Bool = is_made sizes which words logs in
-              let counted : cond accepted (suc n) n ≡ n + m = rw done.made_is (by_test accepted (λ e. rw e (omega arith)) (λ e. rw e (omega arith))) in
-              ap (λ ls. over ls n (state_of words logs)) left_first ∙ (rw (done.state_is, counted) at (serve_first (link_of which) others n (state_of words logs) room))
+              let more : n + 1 ≡ suc n = add-one n in
+              rw (more, done.made_is, done.open_is)
+              (ap (λ ls. over ls n (state_of words logs)) left_first ∙ (rw done.state_is at (serve_first (link_of which) others n (state_of words logs) room)))
 
-          left_now : left count (next + 1) (set numbers kept which) ≡ others
-          left_now = rw (add-one next, drop-set-lt (suc next) numbers kept which (let l = h.behind in omega arith))
+          -- the links that are left, and those that are kept, the one of this turn among them if it is still open
+          module _ (numbers' : List ℕ) (kept' : ℕ) (size' : length numbers' ≡ links) (behind' : kept' ≤ next + 1) (left_now : left count (next + 1) numbers' ≡ others)
+              (kept_now : links_in (take kept' numbers') ++ rest.open_links ≡ links_in (take kept numbers) ++ cond (is_open turn) (link_of which ∷ rest.open_links) rest.open_links) where
+            rounding_next : Rounding words' places' numbers' counted kept' (next + 1)
+            rounding_next = record {
+              ready = done.ready;
+              size = size';
+              few = h.few;
+              behind = behind';
+              within = omega arith;
+              visits = rw (left_now, ← done.state_is) (visits_next (links_of sizes) sizes.cards b _ _ (link_of which) others (state_of words logs) first_visits);
+              state_is = rw left_now (sym (ap (λ v. v.state) first_served) ∙ h.state_is);
+              made_is = rw left_now (sym (ap (λ v. v.count) first_served) ∙ h.made_is);
+              open_are = rw left_now (kept_now ∙ (rw first_served at h.open_are));
+            }
 
-          -- the links that are kept, the one of this turn among them if it is still open
-          kept_now : links_in (take (kept + o) (set numbers kept which)) ++ rest.open_links
-              ≡ links_in (take kept numbers) ++ cond still_open (link_of which ∷ rest.open_links) rest.open_links
-          kept_now =
+          pub rounding_kept : is_open turn ≡ true → Rounding words' places' (set numbers kept which) counted (kept + 1) (next + 1)
+          rounding_kept stays =
               let inside : kept < length numbers = let long = h.size in let few = h.few in let l = h.behind in omega arith in
-              rw done.open_is
-              (by_test still_open
-              (λ e.
-              rw (e, add-one kept, take-suc-set numbers kept which inside, map-append link_of (take kept numbers) (which ∷ []))
+              rounding_next (set numbers kept which) (kept + 1) (length-set numbers kept which ∙ h.size) (let l = h.behind in omega arith)
+              (rw (add-one next, drop-set-lt (suc next) numbers kept which (let l = h.behind in omega arith)))
+              (rw (stays, add-one kept, take-suc-set numbers kept which inside, map-append link_of (take kept numbers) (which ∷ []))
               (append_assoc (links_in (take kept numbers)) (link_of which ∷ []) rest.open_links))
-              (λ e. let same : kept + 0 ≡ kept = omega arith in rw (e, same, take-set-le kept numbers kept which (omega arith))))
 
-          pub rounding_next : Rounding words' places' (set numbers kept which) (n + m) (kept + o) (next + 1)
-          rounding_next = record {
-            ready = done.ready;
-            size = length-set numbers kept which ∙ h.size;
-            few = h.few;
-            behind = let l = h.behind in rw done.open_is (by_test still_open (λ e. rw e (omega arith)) (λ e. rw e (omega arith)));
-            within = omega arith;
-            visits = rw (left_now, ← done.state_is) (visits_next (links_of sizes) sizes.cards b _ _ (link_of which) others (state_of words logs) first_visits);
-            state_is = rw left_now (sym (ap (λ v. v.state) first_served) ∙ h.state_is);
-            made_is = rw left_now (sym (ap (λ v. v.count) first_served) ∙ h.made_is);
-            open_are = rw left_now (kept_now ∙ (rw first_served at h.open_are));
-          }
+          pub rounding_left_out : is_open turn ≡ false → Rounding words' places' numbers counted kept (next + 1)
+          rounding_left_out none = rounding_next numbers kept h.size (let l = h.behind in omega arith) (rw (add-one next)) (rw none)
 
 -- ---- all rounds
 
@@ -348,63 +334,61 @@ module _ (sizes : Sizes) (b : ℕ) (words₀ logs : List ℕ) where
   orderly = checked_orderly sizes.cards sizes.counters sizes.log_bytes
 
   -- so many deliveries are made, and the first `count` links of the list are open
-  pub record Pumping (words places numbers : List ℕ) (made count : ℕ) : Type 0 where
+  pub record Pumping (words places : List ℕ) (list : OpenLinks) (made : ℕ) : Type 0 where
     pub ready : PumpReady sizes words logs places
-    pub size : length numbers ≡ links
-    pub few : count ≤ links
+    pub size : length list.numbers ≡ links
+    pub few : list.count ≤ links
     pub room : made ≤ b
-    pub serving : Serving (links_of sizes) sizes.cards b Good orderly (state_of words₀ logs) (links_in (take count numbers)) made (state_of words logs)
+    pub serving : Serving (links_of sizes) sizes.cards b Good orderly (state_of words₀ logs) (links_in (listed list)) made (state_of words logs)
 
-  pub pumping_begins : (places numbers : List ℕ) (count : ℕ) → PumpReady sizes words₀ logs places → Listed sizes words₀ sizes.cards count numbers
-      → Pumping words₀ places numbers 0 count
-  pumping_begins places numbers count g listed = record {
+  pub pumping_begins : (places : List ℕ) (list : OpenLinks) → PumpReady sizes words₀ logs places → Listed sizes words₀ sizes.cards list → Pumping words₀ places list 0
+  pumping_begins places list g from = record {
     ready = g;
-    size = listed.size;
-    few = let few = listed.few in let small = g.words_fit.few_cards in let all : sizes.cards * sizes.cards ≤ most_cards * most_cards = mul-le-mul small small in omega arith;
+    size = from.size;
+    few = let few = from.few in let small = g.words_fit.few_cards in let all : sizes.cards * sizes.cards ≤ most_cards * most_cards = mul-le-mul small small in omega arith;
     room = omega arith;
-    serving = rw (listed.list logs) (serving_begins (links_of sizes) sizes.cards b Good orderly (state_of words₀ logs) g.checked);
+    serving = rw (from.links_are logs) (serving_begins (links_of sizes) sizes.cards b Good orderly (state_of words₀ logs) g.checked);
   }
 
-  module _ (words places numbers : List ℕ) (made count : ℕ) (h : Pumping words places numbers made count) where
-    links_long : length (links_in (take count numbers)) ≡ count
-    links_long = length-map (take count numbers) link_of ∙ length-take-le count numbers (let long = h.size in let few = h.few in omega arith)
+  module _ (words places : List ℕ) (list : OpenLinks) (made : ℕ) (h : Pumping words places list made) where
+    links_long : length (links_in (listed list)) ≡ list.count
+    links_long = length-map (listed list) link_of ∙ length-take-le list.count list.numbers (let long = h.size in let few = h.few in omega arith)
 
-    pub pumping_round : made < b → RoundReady sizes b count words logs places numbers
+    pub pumping_round : made < b → RoundReady sizes b words logs places list
     pumping_round more = record {
       ready = h.ready;
       size = h.size;
       few = h.few;
-      visits = serving_visits (links_of sizes) sizes.cards b Good orderly (state_of words₀ logs) (links_in (take count numbers)) made (state_of words logs) h.serving more;
+      visits = serving_visits (links_of sizes) sizes.cards b Good orderly (state_of words₀ logs) (links_in (listed list)) made (state_of words logs) h.serving more;
     }
 
-    pub pumping_done : (count ≤ 0) ⊎ (b ≤ made) → PumpDone sizes b words₀ logs made words
+    pub pumping_done : (list.count ≤ 0) ⊎ (b ≤ made) → PumpDone sizes b words₀ logs made words
     pumping_done end =
-        let all = serving_done (links_of sizes) sizes.cards b Good orderly (state_of words₀ logs) (links_in (take count numbers)) made (state_of words logs) h.serving (ended end) in
+        let all = serving_done (links_of sizes) sizes.cards b Good orderly (state_of words₀ logs) (links_in (listed list)) made (state_of words logs) h.serving (ended end) in
         record { state_is = all.0; made_is = all.1 }
       where
-        ended : (count ≤ 0) ⊎ (b ≤ made) → (b ≤ made) ⊎ (links_in (take count numbers) ≡ [])
-        ended (inl few) = let none : count ≡ 0 = omega arith in inr (rw none)
+        ended : (list.count ≤ 0) ⊎ (b ≤ made) → (b ≤ made) ⊎ (links_in (listed list) ≡ [])
+        ended (inl few) = let none : list.count ≡ 0 = omega arith in inr (rw none)
         ended (inr full) = inl full
 
-    module _ (more : made < b) (made' count' : ℕ) (words' places' numbers' : List ℕ)
-        (done : RoundDone sizes b made count words logs numbers made' count' words' places' numbers') where
-      pub pumping_next : Pumping words' places' numbers' made' count'
+    module _ (more : made < b) (made' : ℕ) (words' places' : List ℕ) (list' : OpenLinks) (done : RoundDone sizes b made words logs list made' words' places' list') where
+      pub pumping_next : Pumping words' places' list' made'
       pumping_next = record {
         ready = done.ready;
         size = done.size;
         few = let a = done.few in let few = h.few in omega arith;
-        room = rw (← done.made_is) (serve_room (links_of sizes) sizes.cards b (links_in (take count numbers)) made (state_of words logs) h.room);
+        room = rw (← done.made_is) (serve_room (links_of sizes) sizes.cards b (links_in (listed list)) made (state_of words logs) h.room);
         serving =
             rw (← done.open_are, ← done.made_is, ← done.state_is)
-            (serving_next (links_of sizes) sizes.cards b Good orderly (state_of words₀ logs) (links_in (take count numbers)) made (state_of words logs) h.serving more);
+            (serving_next (links_of sizes) sizes.cards b Good orderly (state_of words₀ logs) (links_in (listed list)) made (state_of words logs) h.serving more);
       }
 
       -- the end is nearer
-      pub pumping_less : 0 < count → (b - made') + count' < (b - made) + count
+      pub pumping_less : 0 < list.count → (b - made') + list'.count < (b - made) + list.count
       pumping_less some =
-          let less = nearer (links_in (take count numbers)) (rw links_long some) in
-          let long' : length (links_in (take count' numbers')) ≡ count'
-          = length-map (take count' numbers') link_of ∙ length-take-le count' numbers' (let long = done.size in let a = done.few in let few = h.few in omega arith) in
+          let less = nearer (links_in (listed list)) (rw links_long some) in
+          let long' : length (links_in (listed list')) ≡ list'.count
+          = length-map (listed list') link_of ∙ length-take-le list'.count list'.numbers (let long = done.size in let a = done.few in let few = h.few in omega arith) in
           rw (done.made_is, done.open_are, long', links_long) at less
         where
           nearer : (ls : List Link) → 0 < length ls

@@ -18,6 +18,7 @@ pub mod ClearedExamples
 pub mod Cases
 pub mod Tests
 pub mod ChecksLaws
+pub mod RefusalLaws
 pub mod Tables
 pub mod BitLaws
 pub mod Lists

@@ -3,6 +3,7 @@
 
 -- DEFINITIONS
 pub mod Limits
+pub mod Refusals
 pub mod Checks
 pub mod Functions
 pub mod Entry

@@ -2,6 +2,7 @@
 pub mod Layout
 pub mod Format
 pub mod Calls
+pub mod Told
 -- Laws: tests and plain facts, refusals, what a message does, what a card sends and takes.
 pub mod ClaimTerms
 -- The active counters.

@@ -1,15 +1,18 @@
 -- LAWS. What a count makes of the own entry, and its outcome.
 use Prim.Native.Nat.{ℕ, ◌+◌, ◌-◌, ◌≤◌, ◌<◌, max}
-use Rattle.std.specs.Prelude.{◌≡◌, cond, List}
+use Rattle.std.specs.Prelude.{◌≡◌, refl, cond, List, length, eqb}
 use Rattle.std.proofs.Common.{◌∙◌}
 use native.Mathlib.Omega.{arith}
-use borrow.Author.Tests.{lt-ltb, le-ltb, ne_eqb}
-use Rattle.protocol.specs.Limits.{MAX}
+use borrow.Author.Tests.{lt-ltb, le-ltb, ne_eqb, eq-eqb, ltb-true, ltb-false}
+use Rattle.protocol.proofs.Cases.{by_test}
 use Rattle.protocol.specs.declared.Entry.{Entry}
-use Rattle.protocol.specs.Entry.{incremented, count_starts, count_p}
+use Rattle.protocol.specs.Entry.{present, incremented, count_starts, count_p}
 use Rattle.protocol.specs.Chassis.{increment, count_message}
 use Rattle.protocol.proofs.StoreLaws.{shown}
-use Rattle.wire.specs.Message.{version_2, increment_length, message_bytes, increment_message, over}
+use Rattle.std.proofs.lemmas.List.Edits.{sets}
+use Rattle.wire.specs.Number.{unsigned_int, unsigned_hyper}
+use Rattle.wire.specs.Message.{version_2, increment_kind, increment_length, p_at, start_at, amount_at, header_bytes_of, header_bytes, message_bytes, increment_message, over}
+use Rattle.wire.specs.WriteLaws.{amount_stored}
 use Rattle.replica_model.specs.Layout.{cards, counters, own_card, C_of, N_of, entry_of, set_C, set_N, set_entry, mark}
 use Rattle.replica_model.proofs.LayoutLaws.{lawful}
 use Rattle.replica_model.specs.Format.{format_2}
@@ -39,12 +42,20 @@ module _ (w counted : ℕ) (e : Entry) (n≤p : e.n ≤ e.p) (c≤ : e.c ≤ cou
       let c_is : max e.c (counted + w) ≡ counted + w = omega arith in
       rw (le-ltb 0 e.p l, p_is, n_is, c_is, ne_eqb (counted + w) counted (λ h. omega arith))
 
--- the own card's entry, C and N leave room for w increments and one message
-pub own_fits : (b : List ℕ) (r q w own : ℕ) → r ≡ cards b → own ≡ own_card b → Sending b q w
-    → let e = entry_of r b q own in (e.n ≤ e.p) × (e.p ≤ e.c) × (e.c ≤ C_of b own) × (C_of b own + w ≤ MAX) × (N_of r b own < MAX)
-own_fits b r q w own first mine h = rw (mine, first) (omega (arith, h.row.tables.entry (own_card b) h.right.own, h.row.tables.own≤C, h.room, h.more))
+-- the number that says whether it starts: it does where p is 0
+pub start_flag : (e : Entry) → cond (eqb e.p 0) 1 0 ≡ cond {A = ℕ} (count_starts e) 1 0
+start_flag e = by_test (present e) (λ t. rw (t, ne_eqb e.p 0 (λ z. omega (arith, ltb-true 0 e.p t)))) (λ t. rw (t, eq-eqb e.p 0 (omega (arith, ltb-false 0 e.p t))))
 
 -- ---- the outcome, from what the code found in the words b of the own card and made
+
+-- the numbers of an increment, each at its place
+pub increment_written : (sender sequence counter p start amount : ℕ) (out first second third last : List ℕ) → increment_length version_2 ≤ length out
+    → first ≡ sets out 0 (header_bytes_of version_2 increment_kind sender sequence counter) → second ≡ sets first p_at (unsigned_hyper p)
+    → third ≡ sets second start_at (unsigned_int start) → last ≡ sets third amount_at (unsigned_int amount)
+    → last ≡ over (message_bytes (increment_message version_2 sender sequence counter p start amount)) out
+unfolding header_bytes increment_message
+increment_written sender sequence counter p start amount out first second third last room one two three four =
+    amount_stored (increment_message version_2 sender sequence counter p start amount) out first second third (λ e. omega arith) room one two three refl last four
 
 -- what an accepted count leaves
 abbrev pub counted_outcome : List ℕ → List ℕ → ℕ → ℕ → SendOutcome

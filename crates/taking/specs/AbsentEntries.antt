@@ -39,7 +39,7 @@ module _ (p c known : ℕ) (M : Entry) (h : Whole M) {e : Entry} {received : ℕ
   pub cleared_stays : settled received e ≡ false → e ≡ cleared p c known M
   cleared_stays f = is ∙ ap (λ (gone : Bool). removeIf gone (lowered p c M)) (sym (rw (is, same) at f)) ∙ cleared_larger p c known M h
 
--- and likewise where it is finished by an increment; what stays is present
+-- and likewise where it is finished by an increment
 module _ (w p known : ℕ) (start : Bool) (M : Entry) {e : Entry} {received : ℕ} (is : e ≡ raised w p start known M) (same : received ≡ known) where
   pub increment_gone : finished (received + w) e ≡ true → absent ≡ incremented w p start known M
   unfolding incremented
@@ -48,9 +48,6 @@ module _ (w p known : ℕ) (start : Bool) (M : Entry) {e : Entry} {received : �
   pub increment_stays : finished (received + w) e ≡ false → e ≡ incremented w p start known M
   unfolding incremented
   increment_stays f = is ∙ ap (λ (gone : Bool). removeIf gone (raised w p start known M)) (sym (rw (is, same) at f))
-
-  pub raised_some : 1 ≤ w → w ≤ p → 0 < e.p
-  raised_some some most = rw is (omega arith)
 
 -- what an entry (p, c) of a message leaves is so again
 cleared_whole : (p c known : ℕ) (e : Entry) → 1 ≤ p → Whole e → Whole (cleared p c known e)

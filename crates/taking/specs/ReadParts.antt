@@ -1,19 +1,20 @@
 -- LAWS. Bytes by the parts that take.rt reads one after the other: the header, what an increment has behind it, and the length word and the entries of a clear.
 -- By them, whether the bytes read in version 2, and the message that they then stand for.
-use Rattle.std.specs.Prelude.{ℕ, ◌+◌, ◌-◌, ◌≤◌, ◌<◌, ◌≡◌, refl, ◌≢◌, List, true, false, ◌&&◌, eqb, replicate}
+use Rattle.std.specs.Prelude.{ℕ, ◌-◌, ◌≤◌, ◌<◌, ◌≡◌, refl, ◌≢◌, List, true, false, ◌&&◌, eqb, replicate}
 use Rattle.std.proofs.Common.{sym, ◌∙◌, arith}
 use Rattle.std.proofs.Math.ListN.{length}
 use Rattle.std.proofs.Math.Seq.{take-append_seam}
 use Rattle.protocol.specs.Limits.{most_cards, most_amount}
 use Rattle.protocol.proofs.Cases.{by_test}
+use Rattle.protocol.specs.declared.ClearEntry.{ClearEntry}
 use Rattle.protocol.specs.Chassis.{increment, clearing}
-use Rattle.wire.specs.Number.{int_at, int_width}
-use Rattle.wire.specs.Message.{version_2, increment_kind, clear_kind, no_entry, entries_at, entries_in_range, from_one_to, increment_in_range, shortest_message, increment_body_length, increment_length, clear_length, increment_message, clear_message, reads, message_at, kind_at, amount_at}
+use Rattle.wire.specs.Number.{int_at}
+use Rattle.wire.specs.Message.{version_2, increment_kind, clear_kind, no_entry, entries_at, entries_in_range, from_one_to, increment_in_range, header_length, increment_length, clear_length, increment_message, clear_message, reads, message_at, kind_at}
 use Rattle.wire.specs.declared.reader.Header.{Header}
 use Rattle.wire.specs.declared.reader.Increment.{Increment}
-use Rattle.wire.specs.MessageParts.{header_at, increment_at}
+use Rattle.wire.specs.MessageParts.{header_at, increment_at, behind_increment}
 use Rattle.wire.specs.MessageLaws.{reads_other_version, reads_other_kind, reads_increment_inexact, reads_increment_unfit, reads_increment_counted, reads_clear_many, reads_clear_inexact, reads_clear_exact, increment_fits}
-use Rattle.wire.specs.MessagePartsLaws.{HeaderRead, header_read, IncrementRead, increment_read, CountRead, count_read}
+use Rattle.wire.specs.MessagePartsLaws.{HeaderRead, header_read, IncrementRead, increment_read}
 use Rattle.wire.specs.RangeLaws.{rest_in_range, known_header}
 use Rattle.wire.specs.RoundTrips.{read_amount, read_clear, read_increment}
 use Rattle.replica_model.specs.Format.{Received, content, received_of}
@@ -22,12 +23,12 @@ use Rattle.replica_model.specs.Format.{Received, content, received_of}
 abbrev pub entries_from : ℕ
 entries_from = clear_length 0
 
--- the message of a header, an increment's body and its amount, and of a header and n entries
+-- the message of a header, an increment's body and its amount, and of a header and entries
 abbrev pub increment_from : Header → Increment → ℕ → Received
 increment_from h body amount = record { sender = h.sender; sequence = h.sequence; content = increment h.counter amount body.p (eqb body.start 1) }
 
-abbrev pub clear_from : Header → ℕ → List ℕ → Received
-clear_from h n s = record { sender = h.sender; sequence = h.sequence; content = clearing h.counter (entries_at n s entries_from) }
+abbrev pub clear_from : Header → List ClearEntry → Received
+clear_from h es = record { sender = h.sender; sequence = h.sequence; content = clearing h.counter es }
 
 module _ (s : List ℕ) (h : Header) (header : h ≡ header_at s 0) where
   front : HeaderRead s h
@@ -54,69 +55,50 @@ module _ (s : List ℕ) (h : Header) (header : h ≡ header_at s 0) where
     pub increment_inexact : length s ≢ increment_length version_2 → false ≡ reads version_2 s
     increment_inexact other = reads_increment_inexact version_2 s (named version) is_increment other
 
-    module _ (long : length s ≡ increment_length version_2) where
-      pub body_room : h.behind + increment_body_length ≤ length s
-      body_room = omega (arith, front.behind, long)
+    module _ (body : Increment) (stands : body ≡ increment_at s header_length) (amount : ℕ) (counts : amount ≡ int_at s (behind_increment header_length)) where
+      back : IncrementRead s body
+      back = increment_read s body stands
 
-      module _ (body : Increment) (stands : body ≡ increment_at s h.behind) where
-        back : IncrementRead s h header body
-        back = increment_read s h header body stands
+      pub increment_received : increment_from h body amount ≡ received_of (message_at version_2 s)
+      unfolding increment_message content
+      increment_received = rw (read_increment version_2 s no_clear, front.sender, front.sequence, front.counter, back.p, back.start, counts)
 
-        pub amount_room : body.behind + int_width ≤ length s
-        amount_room = omega (arith, back.behind, long)
+      -- in range
+      pub amount_bounds : reads version_2 s ≡ true → (1 ≤ amount) × (amount ≤ most_amount)
+      amount_bounds read = rw counts (read_amount s read no_clear)
 
-        module _ (amount : ℕ) (counts : amount ≡ int_at s body.behind) where
-          stands_at : amount ≡ int_at s amount_at
-          stands_at = rw back.behind at counts
-
-          -- the tests in the order of the code
-          pub increment_tested : increment_in_range body.p body.start && rest_in_range h.sender h.sequence h.counter && from_one_to most_amount amount ≡ reads version_2 s
-          increment_tested =
-              let known = known_header version_2 h.sender h.sequence h.counter refl in
-              rw (known, front.sender, front.sequence, front.counter, back.p, back.start, stands_at)
-              (by_test (increment_fits s)
-              (λ t. rw t (sym (reads_increment_counted version_2 s (named version) is_increment long t refl)))
-              (λ f. rw f (reads_increment_unfit version_2 s (named version) is_increment long f)))
-
-          pub increment_received : increment_from h body amount ≡ received_of (message_at version_2 s)
-          unfolding increment_message content
-          increment_received = rw (read_increment version_2 s no_clear, front.sender, front.sequence, front.counter, back.p, back.start, stands_at)
-
-          -- in range
-          pub amount_bounds : reads version_2 s ≡ true → (1 ≤ amount) × (amount ≤ most_amount)
-          amount_bounds read = rw stands_at (read_amount s read no_clear)
+      -- the tests in the order of the code
+      pub increment_tested : length s ≡ increment_length version_2
+          → increment_in_range body.p body.start && rest_in_range h.sender h.sequence h.counter && from_one_to most_amount amount ≡ reads version_2 s
+      increment_tested long =
+          let known = known_header version_2 h.sender h.sequence h.counter refl in
+          rw (known, front.sender, front.sequence, front.counter, back.p, back.start, counts)
+          (by_test (increment_fits s)
+          (λ t. rw t (sym (reads_increment_counted version_2 s (named version) is_increment long t refl)))
+          (λ f. rw f (reads_increment_unfit version_2 s (named version) is_increment long f)))
 
   -- ---- a clear
 
-  pub count_room : shortest_message ≤ length s → h.behind + int_width ≤ length s
-  count_room long = omega (arith, front.behind)
-
-  -- its length word is n, and `at` the place behind it
-  module _ (version : h.version ≡ version_2) (kind : h.kind ≡ clear_kind) (n at : ℕ) (stands : (n ≡ int_at s h.behind) × (at ≡ h.behind + int_width)) where
-    count : CountRead s h header n at
-    count = count_read s h header n at stands
-
+  -- its length word is n
+  module _ (version : h.version ≡ version_2) (kind : h.kind ≡ clear_kind) (n : ℕ) (count : n ≡ int_at s header_length) where
     is_clear : int_at s kind_at ≡ clear_kind
     is_clear = sym front.kind ∙ kind
 
-    pub entries_place : at ≡ entries_from
-    entries_place = count.behind
-
     pub clear_many : most_cards < n → false ≡ reads version_2 s
-    clear_many many = reads_clear_many version_2 s (named version) is_clear n count.number many
+    clear_many many = reads_clear_many version_2 s (named version) is_clear n count many
 
     pub clear_inexact : length s ≢ clear_length n → false ≡ reads version_2 s
-    clear_inexact other = reads_clear_inexact version_2 s (named version) is_clear n count.number other
+    clear_inexact other = reads_clear_inexact version_2 s (named version) is_clear n count other
 
     pub clear_tested : n ≤ most_cards → length s ≡ clear_length n
         → rest_in_range h.sender h.sequence h.counter && entries_in_range 0 (entries_at n s entries_from) ≡ reads version_2 s
     clear_tested few long =
         let known = known_header version_2 h.sender h.sequence h.counter refl in
-        rw (known, front.sender, front.sequence, front.counter) (sym (reads_clear_exact version_2 s (named version) is_clear n count.number few long))
+        rw (known, front.sender, front.sequence, front.counter) (sym (reads_clear_exact version_2 s (named version) is_clear n count few long))
 
-    pub clear_received : clear_from h n s ≡ received_of (message_at version_2 s)
+    pub clear_received : clear_from h (entries_at n s entries_from) ≡ received_of (message_at version_2 s)
     unfolding clear_message content
     clear_received =
         let es = entries_at n s entries_from in
-        rw (read_clear version_2 s is_clear, front.sender, front.sequence, front.counter, ← count.number)
+        rw (read_clear version_2 s is_clear, front.sender, front.sequence, front.counter, ← count)
         (rw (take-append_seam es (replicate (most_cards - length es) no_entry)))

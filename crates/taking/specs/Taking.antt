@@ -1,16 +1,18 @@
--- LAWS. Taking a message, by a replica that is right: the entries of a clear, tested one by one; the checks that both kinds have as one number, what is known of a
+-- LAWS. Taking a message, by a replica that is right: the entries of a clear, tested one by one; the checks that both kinds have, in two parts, what is known of a
 -- message that passes them, and the outcome by the last check; and the outcome of the whole call.
-use Rattle.std.specs.Prelude.{ℕ, ◌+◌, ◌-◌, ◌*◌, ◌≤◌, ◌<◌, ◌≡◌, ◌≢◌, Bool, true, false, not, cond, ◌&&◌, ◌||◌, leb, ltb, eqb, length, get_or, take, drop, replicate}
+use Rattle.std.specs.Prelude.{ℕ, ◌+◌, ◌*◌, ◌≤◌, ◌<◌, ◌≡◌, ◌≢◌, Bool, true, false, not, ◌&&◌, ◌||◌, leb, ltb, eqb, length, get_or, take, drop}
 use Rattle.std.proofs.Math.Path.{refl, sym}
 use Rattle.std.proofs.Common.{ap, ◌∙◌, add-one, arith, drop_of_length-le, drop-cons, leb-true, ltb-true, le-leb, ne_eqb, lt-ltb, le-ltb}
 use mathlib.Core.List.{List, [], ◌∷◌, ◌++◌}
 use Rattle.std.proofs.Math.Bool.{and_assoc, and-true, and-false, and-eq-true_iff}
-use Rattle.std.proofs.Math.ListN.{get_or-append}
 use Rattle.std.proofs.lemmas.Bool.{lt-leb, eqb-false, not-true}
-use Rattle.protocol.specs.Limits.{MAX, most_cards, bad_row, bad_counter, unreadable, implausible}
-use Rattle.protocol.proofs.Cases.{by_test, by_place, by_le, and_left, and_right}
+use Rattle.protocol.specs.Limits.{MAX, bad_row, bad_counter, unreadable, implausible}
+use Rattle.protocol.proofs.Cases.{by_place, by_le}
+use Rattle.protocol.specs.declared.Refusal.{Refusal}
+use Rattle.protocol.specs.Refusals.{number_of}
 use Rattle.protocol.specs.Checks.{Check, or_else, checked, first_failing}
-use Rattle.protocol.proofs.ChecksLaws.{first_refuses, first_passes, all_accepts, checked_append}
+use Rattle.protocol.proofs.RefusalLaws.{refusal_some}
+use Rattle.protocol.proofs.ChecksLaws.{first_refuses, first_passes, all_accepts}
 use Rattle.protocol.specs.declared.ClearEntry.{ClearEntry}
 use Rattle.protocol.specs.Acceptance.{all_entries, entries_of, cards_known, increment_plausible, entry_plausible, plausible}
 use Rattle.protocol.proofs.AcceptanceLaws.{known_sender, known_entries, increment_facts}
@@ -20,8 +22,7 @@ use Rattle.protocol.proofs.StoreLaws.{CardsBelow, cleared_words, taken_words}
 use Rattle.wire.specs.Message.{version_2, no_entry, entry_at, entries_at, entry_length, entry_in_range, reads, message_at}
 use Rattle.wire.specs.declared.reader.Header.{Header}
 use Rattle.wire.specs.declared.reader.Increment.{Increment}
-use Rattle.wire.specs.EntriesLaws.{entries_at_more, length_entries_at}
-use Rattle.replica_model.specs.declared.Taken.{Taken}
+use Rattle.wire.specs.EntriesLaws.{entries_at_more}
 use Rattle.replica_model.specs.Layout.{cards, counters, own_card, C_of, N_of, entry_of, set_C, set_N, set_entry, mark, layout}
 use Rattle.replica_model.proofs.LayoutLaws.{lawful}
 use Rattle.replica_model.specs.Format.{Received, received_of}
@@ -29,10 +30,7 @@ use Rattle.replica_model.specs.Calls.{TakeOutcome, row_well_formed, message_chec
 use Rattle.replica_model.specs.ClaimTerms.{Right, RowOf}
 use Rattle.replica_model.proofs.RowLaws.{tests, right_from, row_facts}
 use Rattle.layout.specs.Effects.{Receives, increment_taken}
-use Rattle.taking.specs.ReadParts.{entries_from, increment_from}
-
-abbrev pub no_taken : ℕ → Taken
-no_taken number = record { number = number; sequence = 0 }
+use Rattle.taking.specs.ReadParts.{increment_from}
 
 -- a plausible increment has a p that its amount can be taken from, and leaves C in range
 pub increment_room : (C w p : ℕ) (start : Bool) → increment_plausible C w p start ≡ true → (w ≤ p) × (C + w ≤ MAX)
@@ -68,14 +66,6 @@ module _ (f : ClearEntry → Bool) (es : List ClearEntry) (i : ℕ) (left : all_
   unfolding all_entries
   entries_done all = sym (rw (drop_of_length-le es all) at left)
 
--- where they are held, each has its place
-pub entries_held : (s : List ℕ) (i n : ℕ) (held : List ClearEntry) → i ≡ n → held ≡ entries_at i s entries_from ++ replicate (most_cards - i) no_entry
-    → (k : ℕ) → k < n → get_or (entries_at n s entries_from) k no_entry ≡ get_or held k no_entry
-entries_held s i n held same holds k l =
-    let es = entries_at n s entries_from in
-    let inside : k < length es = rw (length_entries_at n s entries_from) l in
-    rw (holds, same) (sym (get_or-append es (replicate (most_cards - n) no_entry) no_entry k inside))
-
 -- cards rise, so all are below r where the last is: `low` is the card behind the last of the first i entries
 pub low_none : (r : ℕ) (s : List ℕ) (at : ℕ) → leb 0 r ≡ all_entries (λ e. ltb e.card r) (entries_at 0 s at)
 unfolding all_entries entries_at
@@ -106,10 +96,6 @@ or_and false t u = refl
 abbrev pub entry_test : ℕ → ℕ → ℕ → ℕ → ClearEntry → Bool
 entry_test own ours sender theirs e = not ((eqb e.card own && ltb ours e.c) || (eqb e.card sender && ltb theirs e.c))
 
--- not above is at the most
-pub not_above : (a b : ℕ) → leb b a ≡ not (ltb a b)
-not_above a b = by_le b a (λ l. rw (le-leb b a l, le-ltb a b l)) (λ g. rw (lt-leb b a g, lt-ltb a b g))
-
 module _ (C : ℕ → ℕ) (own sender : ℕ) where
   entry_plausible_is : (e : ClearEntry) → entry_test own (C own) sender (C sender) e ≡ entry_plausible C own sender e
   unfolding entry_plausible
@@ -130,14 +116,10 @@ unfolding cards_known
 other_sender r own sender m h = let k = simp and-eq-true_iff at h in eqb-false sender own (not-true _ k.0.1)
 
 -- 3 and 2, of counter q
-abbrev pub row_fit : List ℕ → ℕ → Bool
-row_fit b q = ltb q (counters b) && row_well_formed b q
+abbrev pub row_checks : List ℕ → ℕ → List Check
+row_checks b q = or_else (ltb q (counters b)) bad_counter ∷ or_else (row_well_formed b q) bad_row ∷ []
 
--- and the number where that is not so
-abbrev pub row_number : List ℕ → ℕ → ℕ
-row_number b q = cond (ltb q (counters b)) bad_row bad_counter
-
--- what `sender_refusal` is given of message m: its sender and sequence, and whether its entries name cards below r
+-- what `check_sender` is given of message m: its sender and sequence, and whether its entries name cards below r
 pub record Given (r : ℕ) (m : Received) (s n : ℕ) (below : Bool) : Type 0 where
   pub sender : m.sender ≡ s
   pub sequence : m.sequence ≡ n
@@ -148,52 +130,48 @@ unfolding all_entries
 increment_given r h body amount = record { sender = refl; sequence = refl; entries = refl }
 
 module _ (b : List ℕ) (m : Received) where
-  -- all but the last
-  abbrev pub shared_checks : List Check
-  shared_checks = take 5 (message_checks b m)
-
-  -- and behind the first two of them
+  -- 7, 8 and 9
   abbrev pub sender_checks : List Check
-  sender_checks = drop 2 shared_checks
+  sender_checks = take 3 (drop 2 (message_checks b m))
 
-  module _ (q : ℕ) (on : counter_of m.content ≡ q) where
-    -- the first two fail
-    pub row_refused : row_fit b q ≡ false → (first_failing shared_checks ≡ row_number b q) × (row_number b q ≢ 0)
-    row_refused fails =
-        by_test (ltb q (counters b))
-        (λ below. rw (on, below, rw below at fails) (refl, λ e. omega arith))
-        (λ above. rw (on, above) (refl, λ e. omega arith))
-
-    -- or pass
-    pub row_passed : row_fit b q ≡ true → first_failing shared_checks ≡ first_failing sender_checks
-    row_passed holds = rw (on, and_left (ltb q (counters b)) (row_well_formed b q) holds, and_right (ltb q (counters b)) (row_well_formed b q) holds)
+  abbrev first_checks : List Check
+  first_checks = row_checks b (counter_of m.content)
 
   abbrev last_check : List Check
   last_check = or_else (plausible (C_of b) (own_card b) m.sender m.content) implausible ∷ []
 
-  -- what take answers and leaves
+  -- what take answers and leaves: all of the checks, those behind the row's, and the last
   abbrev pub judged : TakeOutcome
   judged = checked (λ n. not_taken n b) (message_checks b m) (taken_with b m)
+
+  abbrev at_sender : TakeOutcome
+  at_sender = checked (λ n. not_taken n b) (drop 2 (message_checks b m)) (taken_with b m)
 
   abbrev at_last : TakeOutcome
   at_last = checked (λ n. not_taken n b) last_check (taken_with b m)
 
-  parts : judged ≡ checked (λ n. not_taken n b) shared_checks at_last
-  parts = checked_append (λ n. not_taken n b) shared_checks last_check (taken_with b m)
+  -- a refusal by those of the row
+  pub row_refused : (x : Refusal) → number_of x ≡ first_failing first_checks → not_taken (number_of x) b ≡ judged
+  row_refused x e = rw e (first_refuses (λ n. not_taken n b) at_sender first_checks (λ none. refusal_some x (e ∙ none)))
 
-  pub taking_refused : first_failing shared_checks ≢ 0 → not_taken (first_failing shared_checks) b ≡ judged
-  taking_refused some = first_refuses (λ n. not_taken n b) at_last shared_checks some ∙ sym parts
+  module _ (row : 0 ≡ first_failing first_checks) where
+    behind_row : at_sender ≡ judged
+    behind_row = sym (all_accepts (λ n. not_taken n b) at_sender first_checks (first_passes first_checks refl (sym row)))
 
-  module _ (none : first_failing shared_checks ≡ 0) where
-    passed : at_last ≡ judged
-    passed = sym (parts ∙ all_accepts (λ n. not_taken n b) at_last shared_checks (first_passes shared_checks refl none))
+    -- and by those of the sender
+    pub sender_refused : (x : Refusal) → number_of x ≡ first_failing sender_checks → not_taken (number_of x) b ≡ judged
+    sender_refused x e = rw e (first_refuses (λ n. not_taken n b) at_last sender_checks (λ none. refusal_some x (e ∙ none))) ∙ behind_row
 
-    pub taking_declined : plausible (C_of b) (own_card b) m.sender m.content ≡ false → not_taken implausible b ≡ judged
-    taking_declined fails = rw (← passed, fails)
+    module _ (sender : 0 ≡ first_failing sender_checks) where
+      behind_sender : at_last ≡ judged
+      behind_sender = sym (all_accepts (λ n. not_taken n b) at_last sender_checks (first_passes sender_checks refl (sym sender))) ∙ behind_row
 
-    pub was_taken : (after : List ℕ) → plausible (C_of b) (own_card b) m.sender m.content ≡ true → after ≡ words_after m.sender m.content b
-        → ◌≡◌ {A = TakeOutcome} (record { answer = record { number = 0; sequence = m.sequence }; words = after }) judged
-    was_taken after holds same = rw (← passed, holds, same)
+      pub taking_declined : plausible (C_of b) (own_card b) m.sender m.content ≡ false → not_taken implausible b ≡ judged
+      taking_declined fails = rw (← behind_sender, fails)
+
+      pub was_taken : (after : List ℕ) → plausible (C_of b) (own_card b) m.sender m.content ≡ true → after ≡ words_after m.sender m.content b
+          → ◌≡◌ {A = TakeOutcome} (record { answer = record { number = 0; sequence = m.sequence }; words = after }) judged
+      was_taken after holds same = rw (← behind_sender, holds, same)
 
   -- what is known of a message that passes them
   pub record Passed : Type 0 where
@@ -204,9 +182,10 @@ module _ (b : List ℕ) (m : Received) where
     pub entries : CardsBelow (cards b) (entries_of m.content)
     pub next : m.sequence ≡ N_of (cards b) b m.sender + 1
 
-  pub is_passed : first_failing shared_checks ≡ 0 → Passed
-  is_passed none =
-      let (h₃, (h₂, (h₇, (h₈, (h₉, _))))) = first_passes shared_checks refl none in
+  pub is_passed : 0 ≡ first_failing first_checks → 0 ≡ first_failing sender_checks → Passed
+  is_passed row sender =
+      let (h₃, (h₂, _)) = first_passes first_checks refl (sym row) in
+      let (h₇, (h₈, (h₉, _))) = first_passes sender_checks refl (sym sender) in
       let above = ltb-true (N_of (cards b) b m.sender) m.sequence h₈ in
       let most = leb-true m.sequence (N_of (cards b) b m.sender + 1) h₉ in
       record {

@@ -2,27 +2,22 @@
 // Lines are those of Algorithm 1 in the 2022 paper.
 ghost use Rattle.std.specs.Prelude.{◌≡◌, cond, not, ◌||◌, max, ◌-◌, ◌+◌, ◌≤◌, ◌<◌};
 ghost use Rattle.protocol.specs.Entry.{absent, present, larger, raised, finished, settled, incremented};
-ghost use Rattle.replica_model.specs.Layout.{C_of, entry_of, set_entry};
+ghost use Rattle.replica_model.specs.Layout.{C_of, entry_of, set_entry, mark};
 ghost use Rattle.layout.specs.WordsLaws.{RowInside};
-ghost use Rattle.layout.specs.Effects.{last_word, Receives, marked_if, entry_cleared};
+ghost use Rattle.layout.specs.Effects.{last_word, Receives, entry_cleared};
 
 use layout::words;
+use layout::words::Row;
 use protocol::{ClearEntry, Entry};
-
-fn larger(x: u64, y: u64) -> u64
-    ensures { result ≡ max x y }
-{
-    if x < y { y } else { x }
-}
 
 // "max is taken field by field"
 fn larger_entry(e: Entry, f: Entry) -> Entry
     ensures { result ≡ larger e f }
 {
     Entry {
-        p: larger(e.p, f.p),
-        n: larger(e.n, f.n),
-        c: larger(e.c, f.c),
+        p: e.p.max(f.p),
+        n: e.n.max(f.n),
+        c: e.c.max(f.c),
     }
 }
 
@@ -31,10 +26,7 @@ fn brought_n(amount: u64, p: u64, start: bool, e: Entry) -> u64
     requires { amount ≤ p }
     ensures { result ≡ cond (start || not (present e)) (p - amount) 0 }
 {
-    if start | !(0 < e.p) {
-        return p - amount;
-    }
-    0
+    if start | (e.p == 0) { p - amount } else { 0 }
 }
 
 // Lines 24 and 25. p = n is not enough: an entry that a clear made ahead of its increments stays until they have come, or they would count.
@@ -61,39 +53,31 @@ fn raised_entry(amount: u64, p: u64, start: bool, received: u64, e: Entry) -> En
     larger_entry(e, Entry { p, n, c })
 }
 
-// Lines 17 to 25, for an increment of card j on counter q by an amount: its entry is put, and where it stays the row's bit with it. Answers whether the bit is right already:
-// where the entry goes, it is left for a look at the others.
-pub(crate) fn put_increment(
-    words: &mut [u64],
-    r: usize,
-    q: usize,
-    j: usize,
-    amount: u64,
-    p: u64,
-    start: bool,
-) -> bool
-    requires { Receives words.old r q j × (1 ≤ amount) × (amount ≤ p) × (C_of words.old j + amount ≤ last_word) }
-    ensures { words.new ≡ marked_if result r q (set_entry r q j (incremented amount p start (C_of words.old j) (entry_of r words.old q j)) words.old) }
+// Lines 17 to 25, for an increment of card j by an amount, on the row's counter: its entry is put, and the row's bit with it. Only where the entry goes are the others looked at.
+#[inline(always)]
+pub(crate) fn put_increment(words: &mut [u64], row: Row, j: usize, amount: u64, p: u64, start: bool)
+    requires { Receives words.old row.cards row.counter j × (1 ≤ amount) × (amount ≤ p) × (C_of words.old j + amount ≤ last_word) }
+    ensures { words.new ≡ mark row.cards row.counter (set_entry row.cards row.counter j (incremented amount p start (C_of words.old j) (entry_of row.cards words.old row.counter j)) words.old) }
 {
     let received = words::increments_at(words, j);
-    let e = words::entry_at(words, r, q, j);
+    let e = row.entry(words, j);
     let raised = raised_entry(amount, p, start, received, e);
     if is_finished(received + amount, raised) {
-        words::put_absent(words, r, q, j);
-        return false;
+        row.put_absent(words, j);
+        row.mark(words);
+    } else {
+        row.put_present(words, j, raised);
     }
-    words::put_present(words, r, q, j, raised);
-    true
 }
 
 // Lines 32 to 38, for one entry of a clear. An absent entry has no case of its own: the larger is then (p, p, c), which goes unless c is ahead.
-pub(crate) fn clear_entry(words: &mut [u64], r: usize, q: usize, entry: ClearEntry)
-    requires { RowInside words.old r q × (entry.card < r) × ((entry_of r words.old q entry.card).p ≡ 0 → entry_of r words.old q entry.card ≡ absent) }
-    ensures { words.new ≡ entry_cleared r q entry words.old }
+pub(crate) fn clear_entry(words: &mut [u64], row: Row, entry: ClearEntry)
+    requires { RowInside words.old row.cards row.counter × (entry.card < row.cards) × ((entry_of row.cards words.old row.counter entry.card).p ≡ 0 → entry_of row.cards words.old row.counter entry.card ≡ absent) }
+    ensures { words.new ≡ entry_cleared row.cards row.counter entry words.old }
 {
     let j = entry.card as usize;
     let received = words::increments_at(words, j);
-    let e = words::entry_at(words, r, q, j);
+    let e = row.entry(words, j);
     let lowered = larger_entry(
         e,
         Entry {
@@ -103,8 +87,8 @@ pub(crate) fn clear_entry(words: &mut [u64], r: usize, q: usize, entry: ClearEnt
         },
     );
     if is_settled(received, lowered) {
-        words::put_absent(words, r, q, j);
-        return;
+        row.put_absent(words, j);
+    } else {
+        row.put_entry(words, j, lowered);
     }
-    words::put_entry(words, r, q, j, lowered);
 }

@@ -1,5 +1,5 @@
 -- LAWS. The rule of a table of powers of ten, as a test, and what it says of each entry.
-use Rattle.std.specs.Prelude.{ℕ, zero, suc, ◌+◌, ◌-◌, ◌*◌, ◌^◌, ◌≤◌, ◌<◌, ◌≡◌, Bool, true, false, ◌&&◌, List, [], ◌∷◌, eqb, length, get_or}
+use Rattle.std.specs.Prelude.{ℕ, zero, suc, ◌+◌, ◌-◌, ◌*◌, ◌^◌, ◌≤◌, ◌<◌, ◌≡◌, Bool, true, false, ◌&&◌, List, [], ◌∷◌, eqb, length, get_or, drop}
 use Rattle.std.proofs.lemmas.Bool.{false≢true}
 use Rattle.std.proofs.Common.{pow-suc, le_of_lt, not-suc-le-zero, sub-one, arith, lit<}
 use Rattle.std.proofs.Math.Nat.{pow-le-pow_right}
@@ -23,6 +23,18 @@ tens_at (p ∷ q ∷ table) zero behind h long =
     let all : behind ≡ suc (length table) = omega arith in
     rw (all, pow-suc) (omega (arith, f.0, tens_at (q ∷ table) 0 (length table) f.1 (omega arith)))
 tens_at (p ∷ q ∷ table) (suc place) behind h long = let f = simp tests at h in tens_at (q ∷ table) place behind f.1 (omega arith)
+
+-- of a table of any length: the power of as many as stand behind it
+pub entry_is : (table : List ℕ) (place : ℕ) → tens table ≡ true → place < length table → get_or table place 0 ≡ 10 ^ (length table - place - 1)
+entry_is table place right inside = tens_at table place (length table - place - 1) right (omega arith)
+
+-- the last entries of a table are one
+pub tens_drop : (table : List ℕ) (n : ℕ) → tens table ≡ true → n < length table → tens (drop n table) ≡ true
+unfolding tens
+tens_drop [] n h some = absurd (false≢true h)
+tens_drop (p ∷ table) zero h some = h
+tens_drop (p ∷ []) (suc n) h some = absurd (omega arith)
+tens_drop (p ∷ q ∷ table) (suc n) h some = let f = simp tests at h in tens_drop (q ∷ table) n f.1 (omega arith)
 
 -- a table of as many powers as a number may have digits
 abbrev pub PowersOfTen : List ℕ → Type 0

@@ -1,15 +1,12 @@
 // The only place where a number becomes decimal text. It "takes its sixteen powers of ten from a fixed table and subtracts, dividing nowhere".
-ghost use Rattle.std.specs.Prelude.{◌≡◌, ◌+◌, ◌*◌, ◌^◌, ◌≤◌, ◌<◌, length};
+ghost use Rattle.std.specs.Prelude.{◌≡◌, true, ◌+◌, ◌*◌, ◌^◌, ◌≤◌, ◌<◌, length};
 ghost use Rattle.std.proofs.lemmas.List.Edits.{sets};
 ghost use Rattle.text.specs.Decimal.{digit, decimal};
 ghost use Rattle.text.specs.Put.{most_digits, Put};
 ghost use Rattle.text.specs.DecimalLaws.{Counted, fixed};
-ghost use Rattle.text.specs.Powers.{PowersOfTen};
+ghost use Rattle.text.specs.Powers.{tens, PowersOfTen};
 
 use crate::MOST_DIGITS;
-
-// The digit 0 in ASCII.
-const ZERO: u64 = 48;
 
 // Its rule, each entry ten times the next and the last 1, is a test that the checker computes where `put_decimal` lends the table; all else here
 // requires it (`PowersOfTen`).
@@ -50,14 +47,12 @@ fn digit_count_of(powers: &[u64], x: u64) -> usize
     requires { PowersOfTen powers.now × (x < 10 ^ most_digits) }
     ensures { Counted x result × (result ≤ most_digits) }
 {
-    let mut count: usize = 1;
-    while count < MOST_DIGITS {
+    for count in 1..MOST_DIGITS {
         if x < power_of(powers, count) {
             return count;
         }
-        count += 1;
     }
-    count
+    MOST_DIGITS
 }
 
 // "and subtracts": `x` less its first digit.
@@ -76,18 +71,16 @@ fn digit_below_5(x: u64, power: u64) -> First
     ensures { (result.digit * power + result.rest ≡ x) × (result.rest < power) × (result.digit < 5) }
 {
     if x < power {
-        return less(x, 0, power);
+        less(x, 0, power)
+    } else if x < 2 * power {
+        less(x, 1, power)
+    } else if x < 3 * power {
+        less(x, 2, power)
+    } else if x < 4 * power {
+        less(x, 3, power)
+    } else {
+        less(x, 4, power)
     }
-    if x < 2 * power {
-        return less(x, 1, power);
-    }
-    if x < 3 * power {
-        return less(x, 2, power);
-    }
-    if x < 4 * power {
-        return less(x, 3, power);
-    }
-    less(x, 4, power)
 }
 
 // The comparisons are written out: where LLVM knows the power, it turns a loop that subtracts the power as often as it goes into a division.
@@ -109,38 +102,37 @@ fn digit_byte(d: u64) -> u8
     requires { d < 10 }
     ensures { result ≡ digit d }
 {
-    (ZERO + d) as u8
+    b'0' + d as u8
 }
 
-// The last `count` digits of `x`, the first one first.
-fn put_digits(powers: &[u64], x: u64, count: usize, out: &mut [u8], at: usize) -> usize
-    requires { PowersOfTen powers.now × (count ≤ most_digits) × (x < 10 ^ count) × (at + count ≤ length out.old) }
-    ensures { (out.new ≡ sets out.old at (fixed count x)) × (result ≡ at + count) }
+// The last digits of `x` to the front of `out`, as many as there are powers, the first one first.
+fn put_digits(powers: &[u64], x: u64, out: &mut [u8])
+    requires { (tens powers.now ≡ true) × (length powers.now ≤ most_digits) × (x < 10 ^ length powers.now) × (length powers.now ≤ length out.old) }
+    ensures { out.new ≡ sets out.old 0 (fixed (length powers.now) x) }
 {
     let mut rest = x;
-    let mut left = count;
-    let mut end = at;
-    while 0 < left {
-        left -= 1;
-        let first = first_digit(rest, power_of(powers, left));
-        out[end] = digit_byte(first.digit);
-        end += 1;
+    for (i, power) in powers.iter().enumerate() {
+        let first = first_digit(rest, *power);
+        out[i] = digit_byte(first.digit);
         rest = first.rest;
     }
-    end
 }
 
-fn put_by(powers: &[u64], x: u64, out: &mut [u8], at: usize) -> usize
-    requires { PowersOfTen powers.now × (x < 10 ^ most_digits) × (at + most_digits ≤ length out.old) }
-    ensures { Put most_digits out.old at (decimal x) out.new result }
+fn put_by(powers: &[u64], x: u64, out: &mut [u8]) -> usize
+    requires { PowersOfTen powers.now × (x < 10 ^ most_digits) × (most_digits ≤ length out.old) }
+    ensures { Put most_digits out.old 0 (decimal x) out.new result }
 {
-    put_digits(powers, x, digit_count_of(powers, x), out, at)
+    let count = digit_count_of(powers, x);
+    put_digits(&powers[MOST_DIGITS - count..], x, out);
+    count
 }
 
-// Ruled out: a table with a wrong entry (must-fail/wrong_power).
-pub(crate) fn put_decimal(x: u64, out: &mut [u8], at: usize) -> usize
-    requires { (x < 10 ^ most_digits) × (at + most_digits ≤ length out.old) }
-    ensures { Put most_digits out.old at (decimal x) out.new result }
+// Writes a number to the front of `out`, and returns how many digits it has. Ruled out: a zero in front (must-fail/leading_zero), a digit too few
+// (must-fail/power_of_ten_cut), one digit in every place (must-fail/one_digit_repeated), another multiple subtracted (must-fail/wrong_multiple), a table
+// with a wrong entry (must-fail/wrong_power).
+pub fn put_decimal(x: u64, out: &mut [u8]) -> usize
+    requires { (x < 10 ^ most_digits) × (most_digits ≤ length out.old) }
+    ensures { Put most_digits out.old 0 (decimal x) out.new result }
 {
-    put_by(&POWERS, x, out, at)
+    put_by(&POWERS, x, out)
 }

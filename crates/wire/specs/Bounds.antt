@@ -12,7 +12,6 @@ use Rattle.protocol.specs.declared.ClearEntry.{ClearEntry}
 use Rattle.protocol.proofs.Cases.{by_le, by_place}
 use Rattle.protocol.proofs.Tests.{tests}
 use Rattle.wire.specs.Message.{Message, version_1, version_2, counter_bound, increment_kind, clear_kind, no_entry, increment_message, clear_message, header_in_range, amount_in_range, increment_in_range, clear_in_range, body_in_range, entry_in_range, entries_in_range, unused, in_range}
-use Rattle.wire.specs.EntriesLaws.{places_in_range}
 
 -- ---- bounds
 
@@ -77,6 +76,10 @@ body_bounds version kind p start amount len h =
     increment e (omega arith) (record { p_some = omega arith; p_most = omega arith; start_flag = omega arith; counts = amount_bounds version amount f.0.1 }))
     (λ d. let f = simp tests at (rw (ne_eqb kind increment_kind d) at h) in clear (omega arith) (omega arith) (omega arith) (omega arith) (omega arith))
 
+-- no more entries than there may be, of either kind
+pub body_few : (version kind p start amount len : ℕ) → body_in_range version kind p start amount len ≡ true → len ≤ most_cards
+body_few version kind p start amount len h = body_cases (body_bounds version kind p start amount len h) (λ kind none range. omega arith) (λ kind no_p no_start no_amount few. few)
+
 pub bounds : (m : Message) → in_range m ≡ true → Bounds m
 unfolding in_range header_in_range
 bounds m h =
@@ -89,7 +92,6 @@ bounds m h =
     }
 
 module _ (m : Message) (h : in_range m ≡ true) where
-  -- no more entries than there may be, of either kind
   pub len_few : m.len ≤ most_cards
   len_few = body_cases (bounds m h).body (λ kind none range. omega arith) (λ kind no_p no_start no_amount few. few)
 
@@ -118,7 +120,7 @@ entries_bounds low (e ∷ es) h (suc i) inside = entries_bounds (e.card + 1) es 
 -- ---- and back, of messages made from their fields
 
 -- the numbers, and then the entries
-pub in_range_split : (m : Message) → in_range m ≡ header_in_range m.version m.sender m.sequence m.counter && body_in_range m.version m.kind m.p m.start m.amount m.len && places_in_range 0 m.len m.entries
+pub in_range_split : (m : Message) → in_range m ≡ header_in_range m.version m.sender m.sequence m.counter && body_in_range m.version m.kind m.p m.start m.amount m.len && (entries_in_range 0 (take m.len m.entries) && unused (drop m.len m.entries))
 unfolding in_range
 in_range_split m = simp and_assoc
 

@@ -7,7 +7,7 @@ use Rattle.protocol.proofs.ChecksLaws.{decided}
 use Rattle.protocol.specs.declared.ClearEntry.{ClearEntry}
 use Rattle.wire.specs.Number.{Bytes}
 use Rattle.wire.specs.Message.{Message, version_1, version_2, clear_length, message_bytes, message_length, increment_message, clear_message, in_range, called_length, message_at, reads, version_in, read_declined, read_checks, read_message, front_length, write_declined, write_checks, written, write_message}
-use Rattle.wire.specs.MessageParts.{header_at, increment_at, amount_read_at, entry_read_at}
+use Rattle.wire.specs.MessageParts.{behind_header, behind_increment, behind_amount, behind_entry}
 use Rattle.wire.specs.WriteLaws.{length_message_bytes, increment_message_length, clear_message_length}
 use Rattle.wire.specs.RoundTrips as trips
 
@@ -91,9 +91,8 @@ pub called_of_read : (version : ℕ) (s : List ℕ) → reads version s ≡ true
 called_of_read version s h = sym (trips.readable version s h).exact
 
 -- The position that bytes are read from only moves forward: behind a header, the rest of an increment and an entry it is above the one that the part began at, whatever the bytes; behind an amount it is not below.
-pub position_rises : (version : ℕ) (s : List ℕ) (at : ℕ)
-    → (at < (header_at s at).behind) × (at < (increment_at s at).behind) × (at ≤ (amount_read_at version s at).behind) × (at < (entry_read_at s at).behind)
-position_rises version s at = (omega arith, omega arith, omega arith, omega arith)
+pub position_rises : (version at : ℕ) → (at < behind_header at) × (at < behind_increment at) × (at ≤ behind_amount version at) × (at < behind_entry at)
+position_rises version at = (omega arith, omega arith, omega arith, omega arith)
 
 -- ---- EVERY REFUSAL IS EXACT
 

@@ -1,32 +1,14 @@
 -- LAWS. The entries of a clear: one turn of each loop that reads, tests or writes them, and how long their bytes are.
-use Rattle.std.specs.Prelude.{◌≡◌, ℕ, zero, suc, ◌+◌, ◌-◌, ◌*◌, ◌<◌, ◌≤◌, Bool, true, false, cond, ◌&&◌, List, [], ◌∷◌, ◌++◌, length, get_or, take, drop, replicate, nat_lt, slice_index_or, slice_set, refl}
-use Rattle.std.proofs.Common.{sym, ap, ◌∙◌, append_assoc, add-zero, mul-zero, add-one, arith, length-append, drop_of_length-le, drop-cons, lt-ltb, le-ltb}
-use Rattle.std.proofs.Math.Bool.{and_assoc}
+use Rattle.std.specs.Prelude.{◌≡◌, ℕ, zero, suc, ◌+◌, ◌-◌, ◌*◌, ◌<◌, ◌≤◌, Bool, true, false, ◌&&◌, List, [], ◌∷◌, ◌++◌, length, get_or, take, drop, slice_index_or, slice_set, refl}
+use Rattle.std.proofs.Common.{sym, ap, ◌∙◌, append_assoc, add-zero, mul-zero, add-one, le_refl, arith, length-append, drop_of_length-le, drop-cons, get_or-take}
+use Rattle.std.specs.List.{list_all}
 use Rattle.std.proofs.lemmas.List.Edits.{sets}
 use Rattle.std.proofs.lemmas.List.{set_at}
-use Rattle.std.proofs.Math.Seq.{take-nil, drop-nil}
-use Rattle.protocol.specs.Limits.{most_cards}
 use Rattle.protocol.specs.declared.ClearEntry.{ClearEntry}
-use Rattle.protocol.proofs.Cases.{by_le}
 use Rattle.wire.specs.Number.{unsigned_int, unsigned_hyper}
-use Rattle.wire.specs.Message.{Message, entry_length, entry_p_at, entry_c_at, no_entry, entry_bytes, entries_bytes, entry_at, entries_at, entry_in_range, entries_in_range, entry_unused, unused}
+use Rattle.wire.specs.Message.{entry_length, entry_p_at, entry_c_at, no_entry, entry_bytes, entries_bytes, entry_at, entries_at, entry_in_range, entries_in_range, entry_unused, unused}
 use Rattle.protocol.proofs.StoredLists.{sets_append}
 use Rattle.wire.specs.NumberLaws.{length_bytes_of}
-
--- a message with other entries: what a loop that fills them makes of it
-abbrev pub holding : Message → List ClearEntry → Message
-holding m es = record {
-  version = m.version;
-  kind = m.kind;
-  sender = m.sender;
-  sequence = m.sequence;
-  counter = m.counter;
-  p = m.p;
-  start = m.start;
-  amount = m.amount;
-  len = m.len;
-  entries = es;
-}
 
 -- ---- reading
 
@@ -43,12 +25,11 @@ unfolding entries_at
 length_entries_at zero s at = refl
 length_entries_at (suc count) s at = ap suc (length_entries_at count s (at + entry_length))
 
--- a turn stores the next entry, from the place that it stands at, into the message's places
-pub entries_stored : (i : ℕ) (s : List ℕ) (at place : ℕ) → i < most_cards → place ≡ at + entry_length * i
-    → slice_set (entries_at i s at ++ replicate (most_cards - i) no_entry) i (entry_at s place) ≡ entries_at (i + 1) s at ++ replicate (most_cards - (i + 1)) no_entry
-entries_stored i s at place more here =
-    let left : most_cards - i ≡ suc (most_cards - (i + 1)) = omega arith in
-    rw (left, here) (set_at (entries_at i s at) no_entry (replicate (most_cards - (i + 1)) no_entry) (entry_at s (at + entry_length * i)) i (length_entries_at i s at)
+-- a turn stores the next entry, from the position that it stands at, into the places
+pub entries_stored : (i : ℕ) (s : List ℕ) (at here : ℕ) (places : List ClearEntry) → i < length places → here ≡ at + entry_length * i
+    → slice_set (entries_at i s at ++ drop i places) i (entry_at s here) ≡ entries_at (i + 1) s at ++ drop (i + 1) places
+entries_stored i s at here places more moved =
+    rw (drop-cons places i no_entry more, moved) (set_at (entries_at i s at) (get_or places i no_entry) (drop (suc i) places) (entry_at s (at + entry_length * i)) i (length_entries_at i s at)
     ∙ rw (add-one i, entries_at_more i s at, append_assoc))
 
 -- and tests it: all entries left are in range where this one is and those past it are
@@ -67,43 +48,29 @@ module _ (all : Bool) (low i count : ℕ) (s : List ℕ) (place : ℕ) (e : Clea
   pub entries_failed : entry_in_range low e ≡ false → false ≡ all
   entries_failed fails = rw (entries_next low i count s place more, ← read, fails) at before
 
--- ---- testing the places, used or not
+-- ---- testing a message's own
 
--- one place: in range where it is used, zeros where it is not
-unfoldable pub place_in_range : Bool → ℕ → ClearEntry → Bool
-place_in_range used low e = cond used (entry_in_range low e) (entry_unused e)
+-- a turn tests the next of them
+next_tested : (low i : ℕ) (es : List ClearEntry) → i < length es → let e = get_or es i no_entry in
+    entries_in_range low (drop i es) ≡ entry_in_range low e && entries_in_range (e.card + 1) (drop (i + 1) es)
+unfolding entries_in_range
+next_tested low i es inside = rw (drop-cons es i no_entry inside, add-one i)
 
--- all of them: `len` are used, and their cards rise from `low` on
-abbrev pub places_in_range : ℕ → ℕ → List ClearEntry → Bool
-places_in_range low len es = entries_in_range low (take len es) && unused (drop len es)
+module _ (all : Bool) (low i : ℕ) (es : List ClearEntry) (inside : i < length es) (before : entries_in_range low (drop i es) ≡ all) where
+  pub next_passed : (next : ℕ) → let e = get_or es i no_entry in entry_in_range low e ≡ true → next ≡ e.card + 1 → entries_in_range next (drop (i + 1) es) ≡ all
+  next_passed next fits follows = rw follows (rw (next_tested low i es inside, fits) at before)
 
--- a place, before those past it
-places_next : (low i len : ℕ) (es : List ClearEntry) → i < length es → let e = get_or es i no_entry in
-    places_in_range low (len - i) (drop i es) ≡ place_in_range (nat_lt i len) low e && places_in_range (e.card + 1) (len - (i + 1)) (drop (i + 1) es)
-unfolding entries_in_range unused place_in_range
-places_next low i len es inside =
-    let e = get_or es i no_entry in
-    let rest = drop (suc i) es in
-    rw (drop-cons es i no_entry inside, add-one i)
-    (by_le (suc i) len
-    (λ used.
-    let left : len - i ≡ suc (len - suc i) = omega arith in
-    rw (lt-ltb i len used, left) (and_assoc (entry_in_range low e) (entries_in_range (e.card + 1) (take (len - suc i) rest)) (unused (drop (len - suc i) rest))))
-    (λ past.
-    let none : len - i ≡ 0 = omega arith in
-    let none_next : len - suc i ≡ 0 = omega arith in
-    rw (le-ltb i len (omega arith), none, none_next)))
+  pub next_failed : entry_in_range low (get_or es i no_entry) ≡ false → false ≡ all
+  next_failed fails = rw (next_tested low i es inside, fails) at before
 
-module _ (all : Bool) (low i len : ℕ) (es : List ClearEntry) (inside : i < length es) (before : places_in_range low (len - i) (drop i es) ≡ all) where
-  pub places_passed : (next : ℕ) → let e = get_or es i no_entry in place_in_range (nat_lt i len) low e ≡ true → next ≡ e.card + 1 → places_in_range next (len - (i + 1)) (drop (i + 1) es) ≡ all
-  places_passed next fits follows = rw follows (rw (places_next low i len es inside, fits) at before)
+pub all_tested : (low : ℕ) (es : List ClearEntry) → entries_in_range low (drop (length es) es) ≡ true
+unfolding entries_in_range
+all_tested low es = rw (drop_of_length-le es (le_refl (length es)))
 
-  pub places_failed : place_in_range (nat_lt i len) low (slice_index_or es i no_entry) ≡ false → false ≡ all
-  places_failed fails = rw (places_next low i len es inside, fails) at before
-
-pub places_done : (low n i : ℕ) (es : List ClearEntry) → length es ≤ i → places_in_range low n (drop i es) ≡ true
-unfolding entries_in_range unused
-places_done low n i es all = rw (drop_of_length-le es all, take-nil {A = ClearEntry} n, drop-nil {A = ClearEntry} n)
+pub unused_all : (es : List ClearEntry) → list_all entry_unused es ≡ unused es
+unfolding unused
+unused_all [] = refl
+unused_all (e ∷ es) = ap (λ rest. entry_unused e && rest) (unused_all es)
 
 -- ---- writing
 
@@ -115,6 +82,12 @@ pub length_entries_bytes : (count : ℕ) (es : List ClearEntry) → length (entr
 unfolding entries_bytes
 length_entries_bytes zero es = refl
 length_entries_bytes (suc count) es = simp (length-append, length_entry_bytes) (omega (arith, length_entries_bytes count es))
+
+-- of the front of a list the same bytes
+pub entries_bytes_front : (count most : ℕ) (es : List ClearEntry) → count ≤ most → entries_bytes count (take most es) ≡ entries_bytes count es
+unfolding entries_bytes
+entries_bytes_front zero most es few = refl
+entries_bytes_front (suc count) most es few = rw (entries_bytes_front count most es (omega arith), get_or-take most es count no_entry few)
 
 -- the three numbers of an entry, stored side by side
 entry_written : (out : List ℕ) (at : ℕ) (e : ClearEntry)

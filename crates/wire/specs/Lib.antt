@@ -5,11 +5,13 @@
 pub mod Number
 pub mod Message
 pub mod MessageParts
+pub mod Told
 -- CLAIMS
 pub mod Claims
 pub mod Examples
 -- LAWS
 pub mod NumberLaws
+pub mod KindLaws
 pub mod RangeLaws
 pub mod EntriesLaws
 pub mod Bounds

@@ -1,5 +1,5 @@
 -- LAWS. When bytes read in a version, case by case: by the length, the version, the kind and the ranges; and the message that a longer list starts with.
-use Rattle.std.specs.Prelude.{◌≡◌, ℕ, ◌<◌, ◌≤◌, Bool, true, false, ◌&&◌, List, length, take, ◌==◌, ◌≢◌, nat_le, refl}
+use Rattle.std.specs.Prelude.{◌≡◌, ℕ, ◌<◌, ◌≤◌, Bool, true, false, ◌&&◌, List, length, take, Option, ◌==◌, ◌≢◌, nat_le, refl}
 use Rattle.std.proofs.Common.{sym, ◌∙◌, arith}
 use Rattle.std.proofs.Math.Bool.{and-true, and-false}
 use borrow.Author.Tests.{eq-eqb, ne_eqb, le-leb, lt-leb}
@@ -7,6 +7,7 @@ use Rattle.protocol.specs.Limits.{most_cards, most_amount, unreadable}
 use Rattle.protocol.proofs.Cases.{by_test, by_place}
 use Rattle.wire.specs.Number.{int_at, hyper_at}
 use Rattle.wire.specs.Message.{Message, Reading, is_version, has_amount, increment_kind, clear_kind, shortest_message, increment_length, clear_length, kind_at, sender_at, sequence_at, counter_at, p_at, start_at, amount_at, count_at, first_entry_at, from_one_to, header_in_range, increment_in_range, amount_in_range, entries_in_range, entries_at, amount_in, increment_message, clear_message, in_range, called_length, message_at, reads, read_declined, read_message, front_length}
+use Rattle.wire.specs.Told.{unless_0}
 use Rattle.wire.specs.EntriesLaws.{length_entries_at}
 use Rattle.wire.specs.Bounds.{increment_range, clear_range}
 
@@ -130,15 +131,17 @@ module _ (version : ℕ) (s : List ℕ) (same : int_at s 0 ≡ version) (kind : 
 -- ---- the message that a longer list of bytes starts with
 
 module _ (version : ℕ) (s : List ℕ) (n : ℕ) (called : n ≡ called_length version s) where
-  pub front_length_short : length s < n → 0 ≡ front_length version s
+  pub front_length_short : length s < n → Option.None ≡ unless_0 (front_length version s)
   unfolding front_length
   front_length_short short = rw (← called, lt-leb n (length s) short)
 
   module _ (room : n ≤ length s) where
-    pub front_length_some : reads version (take n s) ≡ true → n ≡ front_length version s
+    pub front_length_some : reads version (take n s) ≡ true → Option.Some n ≡ unless_0 (front_length version s)
     unfolding front_length
-    front_length_some h = rw (← called, le-leb n (length s) room, h)
+    front_length_some h =
+        let some : n ≢ 0 = λ e. omega (arith, called_length_least version s) in
+        rw (← called, le-leb n (length s) room, h, ne_eqb n 0 some)
 
-    pub front_length_none : reads version (take n s) ≡ false → 0 ≡ front_length version s
+    pub front_length_none : reads version (take n s) ≡ false → Option.None ≡ unless_0 (front_length version s)
     unfolding front_length
     front_length_none h = rw (← called, le-leb n (length s) room, h)

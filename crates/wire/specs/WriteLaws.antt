@@ -9,11 +9,10 @@ use Rattle.protocol.proofs.Cases.{by_test, by_place}
 use Rattle.protocol.specs.declared.ClearEntry.{ClearEntry}
 use Rattle.protocol.specs.Limits.{short_output, unreadable}
 use Rattle.wire.specs.Number.{int_width, unsigned_int, unsigned_hyper}
-use Rattle.wire.specs.Message.{Message, WriteOutcome, has_amount, increment_kind, clear_kind, header_length, amount_length, increment_length, clear_length, p_at, start_at, amount_at, count_at, first_entry_at, over, header_bytes_of, header_bytes, amount_bytes, increment_bytes, entries_bytes, clear_bytes, message_bytes, message_length, increment_message, clear_message, in_range, write_declined, write_message}
+use Rattle.wire.specs.Message.{Message, WriteOutcome, has_amount, clear_kind, header_length, amount_length, increment_length, clear_length, p_at, start_at, amount_at, count_at, first_entry_at, over, header_bytes_of, header_bytes, amount_bytes, increment_bytes, entries_bytes, clear_bytes, message_bytes, message_length, increment_message, clear_message, in_range, write_declined, write_message}
 use Rattle.protocol.proofs.StoredLists.{sets_append, sets_front}
 use Rattle.wire.specs.NumberLaws.{length_bytes_of}
 use Rattle.wire.specs.EntriesLaws.{length_entries_bytes}
-use Rattle.wire.specs.Bounds.{kind_increment}
 
 -- ---- lengths
 
@@ -47,41 +46,35 @@ pub clear_message_length : (version sender sequence counter : ℕ) (es : List Cl
 unfolding clear_message
 clear_message_length version sender sequence counter es = refl
 
--- an increment's bytes are those of its fields
-pub increment_bytes_from : (m : Message) → in_range m ≡ true → (m.kind ≢ clear_kind)
-    → message_bytes (increment_message m.version m.sender m.sequence m.counter m.p m.start m.amount) ≡ message_bytes m
-unfolding message_bytes increment_bytes header_bytes increment_message
-increment_bytes_from m h d = sym (rw (kind_increment m h d))
-
 -- ---- stores
 
 -- the header with the numbers of an increment after it, the last of them where the version has it
-module _ (version sender sequence counter p start amount : ℕ) (out first second third : List ℕ) (room : increment_length version ≤ length out)
-    (one : first ≡ sets out 0 (header_bytes_of version increment_kind sender sequence counter))
-    (two : second ≡ sets first p_at (unsigned_hyper p)) (three : third ≡ sets second start_at (unsigned_int start)) where
+module _ (m : Message) (out first second third : List ℕ) (other : m.kind ≢ clear_kind) (room : increment_length m.version ≤ length out)
+    (one : first ≡ sets out 0 (header_bytes m)) (two : second ≡ sets first p_at (unsigned_hyper m.p)) (three : third ≡ sets second start_at (unsigned_int m.start)) where
   abbrev plain : List ℕ
-  plain = header_bytes_of version increment_kind sender sequence counter ++ unsigned_hyper p ++ unsigned_int start
+  plain = header_bytes m ++ unsigned_hyper m.p ++ unsigned_int m.start
+
+  plain_length : length plain ≡ amount_at
+  plain_length = simp (length-append, length_bytes_of, length_header_bytes)
 
   plain_stored : third ≡ sets out 0 plain
-  plain_stored = three ∙ rw (two, one) (simp (sets_append, length-append, length_bytes_of))
+  plain_stored = three ∙ rw (two, one) (simp (sets_append, length-append, length_bytes_of, length_header_bytes))
 
-  pub increment_stored : has_amount version ≡ false → third ≡ over (message_bytes (increment_message version sender sequence counter p start amount)) out
-  unfolding message_bytes increment_bytes header_bytes increment_message
+  pub increment_stored : has_amount m.version ≡ false → third ≡ over (message_bytes m) out
+  unfolding message_bytes increment_bytes
   increment_stored none =
-      let fits : length plain ≤ length out = simp (length-append, length_bytes_of) (rw none at room) in
-      rw (none, append-nil plain) (plain_stored ∙ sets_front plain out fits)
+      let fits : length plain ≤ length out = rw plain_length (rw none at room) in
+      rw (ne_eqb m.kind clear_kind other, none, append-nil plain) (plain_stored ∙ sets_front plain out fits)
 
-  pub amount_room : has_amount version ≡ true → amount_at + int_width ≤ length third
+  pub amount_room : has_amount m.version ≡ true → amount_at + int_width ≤ length third
   amount_room has = rw (plain_stored, length-sets out 0 plain) (rw has at room)
 
-  pub amount_stored : has_amount version ≡ true → (last : List ℕ) → last ≡ sets third amount_at (unsigned_int amount)
-      → last ≡ over (message_bytes (increment_message version sender sequence counter p start amount)) out
-  unfolding message_bytes increment_bytes header_bytes increment_message
+  pub amount_stored : has_amount m.version ≡ true → (last : List ℕ) → last ≡ sets third amount_at (unsigned_int m.amount) → last ≡ over (message_bytes m) out
+  unfolding message_bytes increment_bytes
   amount_stored has last four =
-      let long : length plain ≡ amount_at = simp (length-append, length_bytes_of) in
-      let joined : sets (sets out 0 plain) amount_at (unsigned_int amount) ≡ sets out 0 (plain ++ unsigned_int amount) = sym (sets_append out 0 plain (unsigned_int amount) ∙ rw long) in
-      let fits : length (plain ++ unsigned_int amount) ≤ length out = simp (length-append, length_bytes_of) (rw has at room) in
-      rw has (four ∙ rw plain_stored (joined ∙ sets_front (plain ++ unsigned_int amount) out fits))
+      let joined : sets (sets out 0 plain) amount_at (unsigned_int m.amount) ≡ sets out 0 (plain ++ unsigned_int m.amount) = sym (sets_append out 0 plain (unsigned_int m.amount) ∙ rw plain_length) in
+      let fits : length (plain ++ unsigned_int m.amount) ≤ length out = rw (length-append plain (unsigned_int m.amount), plain_length, length_bytes_of int_width m.amount) (rw has at room) in
+      rw (ne_eqb m.kind clear_kind other, has) (four ∙ rw plain_stored (joined ∙ sets_front (plain ++ unsigned_int m.amount) out fits))
 
 -- the header with a clear's length word and entries after it
 pub clear_stored : (m : Message) (out first second last : List ℕ) → m.kind ≡ clear_kind → clear_length m.len ≤ length out

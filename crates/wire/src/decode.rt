@@ -1,72 +1,68 @@
-// Bytes to a message. Each part is read from the position that the part before it answered. The public calls are `read_message` and
-// `front_length`; `reads` and `called_length_of` are internal functions, for callers that test the bytes first and hold no more of them than they need.
-// Those that are given a version take messages of that version only.
-ghost use Rattle.std.specs.Prelude.{◌≡◌, ◌+◌, ◌*◌, ◌≤◌, true, length, ◌≢◌};
-ghost use Rattle.protocol.specs.Limits.{unreadable};
-ghost use Rattle.wire.specs.Message.{is_version, increment_kind, clear_kind, entry_length, shortest_message, entries_at, entries_in_range, called_length, message_at, reads, read_declined, read_message, front_length};
+// Bytes to a message. The public calls are `read_message` and `front_length`; `reads` and `called_length_of` are internal functions, for callers that test the
+// bytes first and hold no more of them than they need. Those that are given a version take messages of that version only.
+ghost use Rattle.std.specs.Prelude.{◌≡◌, ◌+◌, ◌*◌, ◌≤◌, true, length, ◌≢◌, IfSome};
+ghost use Rattle.wire.specs.Message.{is_version, increment_kind, clear_kind, header_length, entry_length, shortest_message, entries_at, entries_in_range, called_length, message_at, reads, read_message, front_length};
 ghost use Rattle.wire.specs.MessageParts.{header_at};
+ghost use Rattle.wire.specs.Told.{unless_0, message_answer};
 
-use crate::reader::Header;
+use crate::reader::{Header, Reader};
 use crate::{
-    CLEAR, EMPTY_CLEAR_BYTES, INCREMENT, MOST_ENTRIES, Message, NO_ENTRY, Reading, clear_length,
-    has_amount, increment_length, is_version, range, reader,
+    EMPTY_CLEAR_BYTES, Kind, MOST_ENTRIES, Message, NO_ENTRY, clear_length, has_amount,
+    increment_length, is_version, range,
 };
+use protocol::Refusal;
 
-fn does_increment_read(bytes: &[u8], version: u32, header: Header) -> bool
-    requires { (header ≡ header_at bytes.now 0) × (header.version ≡ version) × (header.kind ≡ increment_kind) × (is_version version ≡ true) }
-    ensures { result ≡ reads version bytes.now }
+// `rest` stands behind the header.
+fn does_increment_read(mut rest: Reader, version: u32, header: Header) -> bool
+    requires { (header ≡ header_at rest.src.now 0) × (rest.at ≡ header_length) × (header.version ≡ version) × (header.kind ≡ increment_kind) × (is_version version ≡ true) }
+    ensures { result ≡ reads version rest.entry.src.now }
 {
-    if bytes.len() != increment_length(version) {
+    if rest.src.len() != increment_length(version) {
         return false;
     }
-    let body = reader::increment_from(bytes, header.behind);
+    let body = rest.increment();
     // Tested before the amount is read: where p is used only past a branch, the compiler puts it together byte by byte.
     if !range::increment_in_range(body.p, body.start) {
         return false;
     }
-    let rest = range::rest_in_range(header.sender, header.sequence, header.counter);
+    let others = range::rest_in_range(header.sender, header.sequence, header.counter);
     if has_amount(version) {
-        let amount = reader::next_int(bytes, body.behind);
-        return rest & range::is_amount(amount.number as u64);
+        let amount: u32 = rest.next();
+        return others & range::is_amount(u64::from(amount));
     }
-    rest
+    others
 }
 
-// The entries from `at` on.
-fn are_entries_in_range(bytes: &[u8], at: usize, count: usize) -> bool
-    requires { at + entry_length * count ≤ length bytes.now }
-    ensures { result ≡ entries_in_range 0 (entries_at count bytes.now at) }
+// The next `count` entries.
+fn are_entries_in_range(mut rest: Reader, count: usize) -> bool
+    requires { rest.at + entry_length * count ≤ length rest.src.now }
+    ensures { result ≡ entries_in_range 0 (entries_at count rest.entry.src.now rest.entry.at) }
 {
     let mut low: u64 = 0;
-    let mut place = at;
-    let mut i: usize = 0;
-    while i < count {
-        let read = reader::entry_from(bytes, place);
-        let entry = read.entry;
+    for _ in 0..count {
+        let entry = rest.entry();
         if !range::entry_in_range(low, entry) {
             return false;
         }
         low = range::next_card(entry);
-        place = read.behind;
-        i += 1;
     }
     true
 }
 
-fn does_clear_read(bytes: &[u8], version: u32, header: Header) -> bool
-    requires { (header ≡ header_at bytes.now 0) × (header.version ≡ version) × (header.kind ≡ clear_kind) × (shortest_message ≤ length bytes.now) × (is_version version ≡ true) }
-    ensures { result ≡ reads version bytes.now }
+fn does_clear_read(mut rest: Reader, version: u32, header: Header) -> bool
+    requires { (header ≡ header_at rest.src.now 0) × (rest.at ≡ header_length) × (header.version ≡ version) × (header.kind ≡ clear_kind) × (shortest_message ≤ length rest.src.now) × (is_version version ≡ true) }
+    ensures { result ≡ reads version rest.entry.src.now }
 {
-    let count = reader::next_int(bytes, header.behind);
-    let len = count.number as usize;
+    let count: u32 = rest.next();
+    let len = count as usize;
     if MOST_ENTRIES < len {
         return false;
     }
-    if bytes.len() != clear_length(len) {
+    if rest.src.len() != clear_length(len) {
         return false;
     }
     range::rest_in_range(header.sender, header.sequence, header.counter)
-        & are_entries_in_range(bytes, count.behind, len)
+        & are_entries_in_range(rest, len)
 }
 
 // Whether the bytes, no fewer than the shortest message has, are a message of this version. `read_message` calls it as well as `reads`: with one
@@ -75,17 +71,16 @@ fn does_read(bytes: &[u8], version: u32) -> bool
     requires { (is_version version ≡ true) × (shortest_message ≤ length bytes.now) }
     ensures { result ≡ reads version bytes.now }
 {
-    let header = reader::header_from(bytes, 0);
+    let mut rest = Reader { src: bytes, at: 0 };
+    let header = rest.header();
     if header.version != version {
         return false;
     }
-    if header.kind == INCREMENT {
-        return does_increment_read(bytes, version, header);
+    match Kind::try_from(header.kind) {
+        Ok(Kind::Increment) => does_increment_read(rest, version, header),
+        Ok(Kind::Clear) => does_clear_read(rest, version, header),
+        Err(_) => false,
     }
-    if header.kind == CLEAR {
-        return does_clear_read(bytes, version, header);
-    }
-    false
 }
 
 // Whether the bytes are a message of this version. It holds no message, so that testing those of a log costs no struct.
@@ -105,36 +100,40 @@ pub fn reads(bytes: &[u8], version: u32) -> bool
 }
 
 // The message that bytes stand for, where they read.
-fn increment_message(bytes: &[u8], header: Header) -> Message
-    requires { (reads header.version bytes.now ≡ true) × (header ≡ header_at bytes.now 0) × (header.kind ≢ clear_kind) }
-    ensures { result ≡ message_at header.version bytes.now }
+fn increment_message(mut rest: Reader, header: Header) -> Message
+    requires { (reads header.version rest.src.now ≡ true) × (header ≡ header_at rest.src.now 0) × (rest.at ≡ header_length) × (header.kind ≢ clear_kind) }
+    ensures { result ≡ message_at header.version rest.entry.src.now }
 {
-    let body = reader::increment_from(bytes, header.behind);
-    let amount = reader::amount_from(bytes, header.version, body.behind);
+    let body = rest.increment();
+    let amount = rest.amount(header.version);
     Message {
         version: header.version,
-        kind: INCREMENT,
+        kind: Kind::Increment as u32,
         sender: header.sender,
         sequence: header.sequence,
         counter: header.counter,
         p: body.p,
         start: body.start,
-        amount: amount.number,
+        amount,
         len: 0,
         entries: [NO_ENTRY; MOST_ENTRIES],
     }
 }
 
 // "Once read, a clear message is held whole, with all of its entries."
-fn clear_message(bytes: &[u8], header: Header) -> Message
-    requires { (reads header.version bytes.now ≡ true) × (header ≡ header_at bytes.now 0) × (header.kind ≡ clear_kind) }
-    ensures { result ≡ message_at header.version bytes.now }
+fn clear_message(mut rest: Reader, header: Header) -> Message
+    requires { (reads header.version rest.src.now ≡ true) × (header ≡ header_at rest.src.now 0) × (rest.at ≡ header_length) × (header.kind ≡ clear_kind) }
+    ensures { result ≡ message_at header.version rest.entry.src.now }
 {
-    let count = reader::next_int(bytes, header.behind);
-    let len = count.number as usize;
-    let mut m = Message {
+    let count: u32 = rest.next();
+    let len = count as usize;
+    let mut entries = [NO_ENTRY; MOST_ENTRIES];
+    for entry in &mut entries[..len] {
+        *entry = rest.entry();
+    }
+    Message {
         version: header.version,
-        kind: CLEAR,
+        kind: Kind::Clear as u32,
         sender: header.sender,
         sequence: header.sequence,
         counter: header.counter,
@@ -142,69 +141,31 @@ fn clear_message(bytes: &[u8], header: Header) -> Message
         start: 0,
         amount: 0,
         len,
-        entries: [NO_ENTRY; MOST_ENTRIES],
-    };
-    let mut place = count.behind;
-    let mut i: usize = 0;
-    while i < len {
-        let read = reader::entry_from(bytes, place);
-        let entry = read.entry;
-        m.entries[i] = entry;
-        place = read.behind;
-        i += 1;
-    }
-    m
-}
-
-fn message_from(bytes: &[u8], header: Header) -> Message
-    requires { (reads header.version bytes.now ≡ true) × (header ≡ header_at bytes.now 0) }
-    ensures { result ≡ message_at header.version bytes.now }
-{
-    if header.kind == CLEAR {
-        return clear_message(bytes, header);
-    }
-    increment_message(bytes, header)
-}
-
-fn refuse() -> Reading
-    ensures { result ≡ read_declined unreadable }
-{
-    let message = Message {
-        version: 0,
-        kind: 0,
-        sender: 0,
-        sequence: 0,
-        counter: 0,
-        p: 0,
-        start: 0,
-        amount: 0,
-        len: 0,
-        entries: [NO_ENTRY; MOST_ENTRIES],
-    };
-    Reading {
-        number: protocol::UNREADABLE,
-        message,
+        entries,
     }
 }
 
-// The message, of any version, that the bytes stand for, or `UNREADABLE` and zeros.
+// The message, of any version, that the bytes stand for, or `Unreadable`.
 // Ruled out: a reader that takes another length than the message's (must-fail/increment_of_37_bytes), and one that takes a clear
 // whose cards do not rise (must-fail/cards_may_repeat).
-pub fn read_message(bytes: &[u8]) -> Reading
-    ensures { result ≡ read_message bytes.now }
+pub fn read_message(bytes: &[u8]) -> Result<Message, Refusal>
+    ensures { message_answer result ≡ read_message bytes.now }
 {
     if bytes.len() < EMPTY_CLEAR_BYTES {
-        return refuse();
+        return Err(Refusal::Unreadable);
     }
-    let header = reader::header_from(bytes, 0);
+    let mut rest = Reader { src: bytes, at: 0 };
+    let header = rest.header();
     if !is_version(header.version) {
-        return refuse();
+        return Err(Refusal::Unreadable);
     }
-    if does_read(bytes, header.version) {
-        let message = message_from(bytes, header);
-        return Reading { number: 0, message };
+    if !does_read(bytes, header.version) {
+        return Err(Refusal::Unreadable);
     }
-    refuse()
+    match Kind::try_from(header.kind)? {
+        Kind::Increment => Ok(increment_message(rest, header)),
+        Kind::Clear => Ok(clear_message(rest, header)),
+    }
 }
 
 // The length that the kind and the length word ask for in this version, where the header and that word are there.
@@ -213,28 +174,31 @@ pub fn called_length_of(bytes: &[u8], version: u32) -> usize
     requires { shortest_message ≤ length bytes.now }
     ensures { result ≡ called_length version bytes.now }
 {
-    let header = reader::header_from(bytes, 0);
-    if header.kind == CLEAR {
-        let count = reader::next_int(bytes, header.behind);
-        return clear_length(count.number as usize);
+    let mut rest = Reader { src: bytes, at: 0 };
+    let header = rest.header();
+    if header.kind == Kind::Clear as u32 {
+        let count: u32 = rest.next();
+        return clear_length(count as usize);
     }
     increment_length(version)
 }
 
-// The length of the message of this version that the bytes start with, 0 where they start with none that reads.
-// Ruled out: the called length of bytes that do not read, and 0 for a message with other bytes after it.
-pub fn front_length(bytes: &[u8], version: u32) -> usize
-    ensures { (result ≡ front_length version bytes.now) × (result ≤ length bytes.now) }
+// The length of the message of this version that the bytes start with, if they start with one that reads.
+// Ruled out: the called length of bytes that do not read, and no length for a message with other bytes after it.
+pub fn front_length(bytes: &[u8], version: u32) -> Option<usize>
+    ensures length { result ≡ unless_0 (front_length version bytes.now) }
+    ensures inside { IfSome result (λ n. n ≤ length bytes.now) }
 {
     if bytes.len() < EMPTY_CLEAR_BYTES {
-        return 0;
+        return None;
     }
     let called = called_length_of(bytes, version);
     if bytes.len() < called {
-        return 0;
+        return None;
     }
     if reads(&bytes[..called], version) {
-        return called;
+        Some(called)
+    } else {
+        None
     }
-    0
 }

@@ -1,17 +1,17 @@
 // A message to bytes. The public call is `write_message`: it tests before it writes, so a refusal leaves every byte. Callers that make a message from a
 // card's words write its numbers one by one, at the places below.
-ghost use Rattle.std.specs.Prelude.{◌≡◌, ◌≤◌, length};
+ghost use Rattle.std.specs.Prelude.{◌≡◌, ◌≤◌, length, ◌≢◌};
 ghost use Rattle.std.proofs.lemmas.List.Edits.{sets};
 ghost use Rattle.protocol.specs.Limits.{most_cards};
-ghost use Rattle.wire.specs.Message.{clear_kind, header_length, increment_length, clear_length, length_of, WriteOutcome, over, header_bytes_of, message_bytes, increment_message, write_message};
-ghost use Rattle.wire.specs.EntriesLaws.{place_in_range};
+ghost use Rattle.wire.specs.Message.{clear_kind, header_length, increment_length, clear_length, length_of, WriteOutcome, over, header_bytes, message_bytes, in_range, write_message};
+ghost use Rattle.wire.specs.Told.{written_answer};
 
-use crate::number::{HYPER_BYTES, INT_BYTES};
+use crate::number::{HYPER_BYTES, INT_BYTES, Unsigned};
 use crate::{
-    CLEAR, EMPTY_CLEAR_BYTES, ENTRY_BYTES, HEADER_BYTES, INCREMENT, MOST_ENTRIES, Message, Written,
-    clear_length, has_amount, increment_length, number, range,
+    EMPTY_CLEAR_BYTES, ENTRY_BYTES, HEADER_BYTES, Kind, Message, clear_length, has_amount,
+    increment_length, range,
 };
-use protocol::ClearEntry;
+use protocol::Refusal;
 
 // Where the fields are written, the version first: each where the one before it ends.
 pub const KIND_AT: usize = INT_BYTES;
@@ -38,69 +38,57 @@ pub const ENTRY_P_AT: usize = INT_BYTES;
 
 pub const ENTRY_C_AT: usize = ENTRY_P_AT + HYPER_BYTES;
 
-fn put_header(version: u32, kind: u32, sender: u32, sequence: u64, counter: u32, out: &mut [u8])
+fn put_header(m: &Message, out: &mut [u8])
     requires { header_length ≤ length out.old }
-    ensures { out.new ≡ sets out.old 0 (header_bytes_of version kind sender sequence counter) }
+    ensures { out.new ≡ sets out.old 0 (header_bytes m.now) }
 {
-    number::write_u32(out, 0, version);
-    number::write_u32(out, KIND_AT, kind);
-    number::write_u32(out, SENDER_AT, sender);
-    number::write_u64(out, SEQUENCE_AT, sequence);
-    number::write_u32(out, COUNTER_AT, counter);
+    m.version.write(out, 0);
+    m.kind.write(out, KIND_AT);
+    m.sender.write(out, SENDER_AT);
+    m.sequence.write(out, SEQUENCE_AT);
+    m.counter.write(out, COUNTER_AT);
 }
 
 // Writes an increment where there is room for it, whatever its numbers.
 // Ruled out: a number at another's place, an amount in version 1, and a byte past the increment that changes.
-fn put_increment(
-    version: u32,
-    sender: u32,
-    sequence: u64,
-    counter: u32,
-    p: u64,
-    start: u32,
-    amount: u32,
-    out: &mut [u8],
-)
-    requires { increment_length version ≤ length out.old }
-    ensures { out.new ≡ over (message_bytes (increment_message version sender sequence counter p start amount)) out.old }
+fn put_increment(m: &Message, out: &mut [u8])
+    requires { (m.now.kind ≢ clear_kind) × (increment_length m.now.version ≤ length out.old) }
+    ensures { out.new ≡ over (message_bytes m.now) out.old }
 {
-    put_header(version, INCREMENT, sender, sequence, counter, out);
-    number::write_u64(out, P_AT, p);
-    number::write_u32(out, START_AT, start);
-    if !has_amount(version) {
-        return;
+    put_header(m, out);
+    m.p.write(out, P_AT);
+    m.start.write(out, START_AT);
+    if has_amount(m.version) {
+        m.amount.write(out, AMOUNT_AT);
     }
-    number::write_u32(out, AMOUNT_AT, amount);
 }
 
 // Writes a clear where there is room for it, whatever its numbers.
 // Ruled out: an entry written past the last (must-fail/entry_past_the_last), and entries left out.
-fn put_clear(m: Message, out: &mut [u8])
-    requires { (m.kind ≡ clear_kind) × (m.len ≤ most_cards) × (clear_length m.len ≤ length out.old) }
-    ensures { out.new ≡ over (message_bytes m) out.old }
+fn put_clear(m: &Message, out: &mut [u8])
+    requires { (m.now.kind ≡ clear_kind) × (m.now.len ≤ most_cards) × (clear_length m.now.len ≤ length out.old) }
+    ensures { out.new ≡ over (message_bytes m.now) out.old }
 {
-    let len = m.len;
-    put_header(m.version, m.kind, m.sender, m.sequence, m.counter, out);
-    number::write_u32(out, LEN_AT, len as u32);
-    let mut i: usize = 0;
-    while i < len {
-        // Each number is read where it is written: its byte stores then become one, and those of three numbers in a row do not.
+    put_header(m, out);
+    (m.len as u32).write(out, LEN_AT);
+    for (i, entry) in m.entries[..m.len].iter().enumerate() {
         let at = ENTRIES_AT + ENTRY_BYTES * i;
-        number::write_u32(out, at, m.entries[i].card);
-        number::write_u64(out, at + ENTRY_P_AT, m.entries[i].p);
-        number::write_u64(out, at + ENTRY_C_AT, m.entries[i].c);
-        i += 1;
+        entry.card.write(out, at);
+        entry.p.write(out, at + ENTRY_P_AT);
+        entry.c.write(out, at + ENTRY_C_AT);
     }
 }
 
-// One place of the array: in range where the length counts it, zeros where it does not.
-fn place_in_range(used: bool, low: u64, entry: ClearEntry) -> bool
-    ensures { result ≡ place_in_range used low entry }
+// Ruled out: a message in another form than its one (must-fail/unused_not_zero).
+fn in_range(m: &Message) -> bool
+    ensures { result ≡ in_range m.now }
 {
-    if used {
-        return range::entry_in_range(low, entry);
+    let header = range::header_in_range(m.version, m.sender, m.sequence, m.counter);
+    if !(header & range::body_in_range(m.version, m.kind, m.p, m.start, m.amount, m.len)) {
+        return false;
     }
-    range::entry_unused(entry)
+    let (used, rest) = m.entries.split_at(m.len);
+    range::entries_in_range(used) && range::unused(rest)
 }
 
 // The length of a message of this version and kind with `len` entries.
@@ -109,50 +97,30 @@ fn length_of(version: u32, kind: u32, len: usize) -> usize
     requires { len ≤ most_cards }
     ensures { result ≡ length_of version kind len }
 {
-    if kind == CLEAR {
+    if kind == Kind::Clear as u32 {
         return clear_length(len);
     }
     increment_length(version)
 }
 
-fn decline(number: u64) -> Written
-    ensures { result ≡ record { number = number; length = 0 } }
-{
-    Written { number, length: 0 }
-}
-
-// Writes the message from the first byte on, or declines with `UNREADABLE`, then `SHORT_OUTPUT`, and leaves every byte. A message has one form: what
-// its version and its kind do not use is 0. Its places are tested here and not in a function that it is passed to, which would copy it.
+// Writes the message from the first byte on, and answers its length; or declines with `Unreadable`, then `ShortOutput`, and leaves every byte. A message has one form:
+// what its version and its kind do not use is 0.
 // Ruled out: a writer that takes a message in another form than its one (must-fail/unused_not_zero), and one that touches a byte
 // past the message (must-fail/entry_past_the_last).
-pub fn write_message(m: Message, out: &mut [u8]) -> Written
-    ensures { ◌≡◌ {A = WriteOutcome} (record { answer = result; out = out.new }) (write_message m out.old) }
+pub fn write_message(m: Message, out: &mut [u8]) -> Result<usize, Refusal>
+    ensures { ◌≡◌ {A = WriteOutcome} (record { answer = written_answer result; out = out.new }) (write_message m out.old) }
 {
-    let len = m.len;
-    let header = range::header_in_range(m.version, m.sender, m.sequence, m.counter);
-    if !(header & range::body_in_range(m.version, m.kind, m.p, m.start, m.amount, len)) {
-        return decline(protocol::UNREADABLE);
+    if !in_range(&m) {
+        return Err(Refusal::Unreadable);
     }
-    let mut low: u64 = 0;
-    let mut i: usize = 0;
-    while i < MOST_ENTRIES {
-        let entry = m.entries[i];
-        if !place_in_range(i < len, low, entry) {
-            return decline(protocol::UNREADABLE);
-        }
-        low = range::next_card(entry);
-        i += 1;
-    }
-    let length = length_of(m.version, m.kind, len);
+    let length = length_of(m.version, m.kind, m.len);
     if out.len() < length {
-        return decline(protocol::SHORT_OUTPUT);
+        return Err(Refusal::ShortOutput);
     }
-    if m.kind == CLEAR {
-        put_clear(m, out);
-        return Written { number: 0, length };
+    if m.kind == Kind::Clear as u32 {
+        put_clear(&m, out);
+    } else {
+        put_increment(&m, out);
     }
-    put_increment(
-        m.version, m.sender, m.sequence, m.counter, m.p, m.start, m.amount, out,
-    );
-    Written { number: 0, length }
+    Ok(length)
 }

@@ -3,8 +3,9 @@
 
 ghost use Rattle.std.specs.Prelude.{◌≡◌, ◌^◌, ◌<◌};
 ghost use Rattle.wire.specs.Message.{is_version, has_amount, increment_length, clear_length};
+ghost use Rattle.wire.specs.Told.{kind_of, message_answer, written_answer};
 
-use protocol::ClearEntry;
+use protocol::{ClearEntry, Refusal};
 
 pub mod decode;
 pub mod encode;
@@ -17,10 +18,27 @@ pub const VERSION_1: u32 = 1;
 
 pub const VERSION_2: u32 = 2;
 
-// The two kinds of message.
-pub const INCREMENT: u32 = 1;
+// The two kinds of message, by the number that stands for each in the bytes.
+#[derive(Clone, Copy, PartialEq, Eq, Debug)]
+pub enum Kind {
+    Increment = 1,
+    Clear,
+}
 
-pub const CLEAR: u32 = 2;
+// Ruled out: a number that stands for no kind taken for a clear (must-fail/kind_3_is_a_clear).
+impl TryFrom<u32> for Kind {
+    type Error = Refusal;
+
+    ghost try_from_gives = { λ number kind. kind ≡ kind_of number };
+
+    fn try_from(number: u32) -> Result<Kind, Refusal> {
+        match number {
+            1 => Ok(Kind::Increment),
+            2 => Ok(Kind::Clear),
+            _ => Err(Refusal::Unreadable),
+        }
+    }
+}
 
 // The lengths of a header, of an increment without its amount and with it, of a clear without entries and of an entry.
 const HEADER_BYTES: usize = 24;
@@ -41,6 +59,20 @@ pub const NO_ENTRY: ClearEntry = ClearEntry {
     card: 0,
     p: 0,
     c: 0,
+};
+
+// What a refusal has in the place of a message.
+const NO_MESSAGE: Message = Message {
+    version: 0,
+    kind: 0,
+    sender: 0,
+    sequence: 0,
+    counter: 0,
+    p: 0,
+    start: 0,
+    amount: 0,
+    len: 0,
+    entries: [NO_ENTRY; MOST_ENTRIES],
 };
 
 // A message held whole: an increment uses `p`, `start` and from version 2 on `amount`, a clear the first `len` entries. What its version and its
@@ -74,6 +106,34 @@ pub struct Reading {
 pub struct Written {
     pub number: u64,
     pub length: usize,
+}
+
+impl From<Result<Message, Refusal>> for Reading {
+    ghost from_gives = { λ outcome answer. answer ≡ message_answer outcome };
+
+    fn from(outcome: Result<Message, Refusal>) -> Reading {
+        match outcome {
+            Ok(message) => Reading { number: 0, message },
+            Err(refusal) => Reading {
+                number: refusal.into(),
+                message: NO_MESSAGE,
+            },
+        }
+    }
+}
+
+impl From<Result<usize, Refusal>> for Written {
+    ghost from_gives = { λ outcome answer. answer ≡ written_answer outcome };
+
+    fn from(outcome: Result<usize, Refusal>) -> Written {
+        match outcome {
+            Ok(length) => Written { number: 0, length },
+            Err(refusal) => Written {
+                number: refusal.into(),
+                length: 0,
+            },
+        }
+    }
 }
 
 fn is_version(version: u32) -> bool

@@ -1,10 +1,10 @@
-// The ranges of a message's fields, shared by reading and writing. Each function takes numbers or one entry, never the whole struct.
+// The ranges of a message's fields, shared by reading and writing. Each function takes numbers or entries, never the whole struct.
 ghost use Rattle.std.specs.Prelude.{◌≡◌, ◌+◌};
 ghost use Rattle.protocol.specs.Limits.{most_amount};
-ghost use Rattle.wire.specs.Message.{from_one_to, header_in_range, amount_in_range, increment_in_range, body_in_range, entry_in_range, entry_unused};
+ghost use Rattle.wire.specs.Message.{from_one_to, header_in_range, amount_in_range, increment_in_range, body_in_range, entry_in_range, entries_in_range, unused};
 ghost use Rattle.wire.specs.RangeLaws.{rest_in_range};
 
-use crate::{CLEAR, INCREMENT, MOST_ENTRIES, has_amount, is_version};
+use crate::{Kind, MOST_ENTRIES, NO_ENTRY, has_amount, is_version};
 use protocol::ClearEntry;
 
 const MOST_CARDS: u32 = protocol::MOST_CARDS as u32;
@@ -15,7 +15,7 @@ const MOST_COUNTERS: u32 = protocol::MOST_COUNTERS as u32;
 fn from_one(x: u64, most: u64) -> bool
     ensures { result ≡ from_one_to most x }
 {
-    std::num::wrapping_sub_u64(x, 1) < most
+    x.wrapping_sub(1) < most
 }
 
 // A header but for its version.
@@ -50,9 +50,10 @@ pub(crate) fn amount_in_range(version: u32, amount: u32) -> bool
     ensures { result ≡ amount_in_range version amount }
 {
     if has_amount(version) {
-        return is_amount(amount as u64);
+        is_amount(u64::from(amount))
+    } else {
+        amount == 0
     }
-    amount == 0
 }
 
 // What the version and the kind ask of the numbers past the header: those that they do not use are 0.
@@ -66,31 +67,49 @@ pub(crate) fn body_in_range(
 ) -> bool
     ensures { result ≡ body_in_range version kind p start amount len }
 {
-    if kind == INCREMENT {
-        return increment_in_range(p, start) & amount_in_range(version, amount) & (len == 0);
+    match Kind::try_from(kind) {
+        Ok(Kind::Increment) => {
+            increment_in_range(p, start) & amount_in_range(version, amount) & (len == 0)
+        }
+        Ok(Kind::Clear) => (p == 0) & (start == 0) & (amount == 0) & (len <= MOST_ENTRIES),
+        Err(_) => false,
     }
-    (kind == CLEAR) & ((p == 0) & (start == 0) & (amount == 0) & (len <= MOST_ENTRIES))
 }
 
 // Cards rise strictly: the entry's card is `low` or above.
 pub fn entry_in_range(low: u64, entry: ClearEntry) -> bool
     ensures { result ≡ entry_in_range low entry }
 {
-    (low <= entry.card as u64)
+    (low <= u64::from(entry.card))
         & (entry.card < MOST_CARDS)
         & from_one(entry.p, entry.c)
         & from_one(entry.c, protocol::MAX)
-}
-
-pub(crate) fn entry_unused(entry: ClearEntry) -> bool
-    ensures { result ≡ entry_unused entry }
-{
-    (entry.card == 0) & (entry.p == 0) & (entry.c == 0)
 }
 
 // The lowest card that may follow.
 pub fn next_card(entry: ClearEntry) -> u64
     ensures { result ≡ entry.card + 1 }
 {
-    entry.card as u64 + 1
+    u64::from(entry.card) + 1
+}
+
+// The entries of a clear.
+pub(crate) fn entries_in_range(entries: &[ClearEntry]) -> bool
+    ensures { result ≡ entries_in_range 0 entries.now }
+{
+    let mut low: u64 = 0;
+    for entry in entries {
+        if !entry_in_range(low, *entry) {
+            return false;
+        }
+        low = next_card(*entry);
+    }
+    true
+}
+
+// The places that a message does not use.
+pub(crate) fn unused(entries: &[ClearEntry]) -> bool
+    ensures { result ≡ unused entries.now }
+{
+    entries.iter().all(|entry| *entry == NO_ENTRY)
 }

@@ -26,7 +26,7 @@ const OF_EXPORTS: [&str; 3] = ["extern \"", "no_mangle", "export_name"];
 
 /// What requests speak of and no host calls, the listing and the digit writer: the crate, and how
 /// the function begins.
-const INTERNAL: [(&str, &str); 2] = [("listing", "pub fn list("), ("text", "pub fn put_field(")];
+const INTERNAL: [(&str, &str); 2] = [("listing", "pub fn list("), ("text", "pub fn put_decimal(")];
 
 pub struct File {
     pub path: String,

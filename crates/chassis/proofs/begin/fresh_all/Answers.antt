@@ -1,5 +1,5 @@
 -- One card more is fresh (`fresh_next`).
-use Rattle.std.proofs.Common.{◌∙◌, arith}
+use Rattle.std.proofs.Common.{◌∙◌}
 use Rattle.std.proofs.Math.Nat.{zero-mul}
 use Rattle.replica_model.specs.Layout.{replica_length}
 use Rattle.chassis_model.specs.Run.{fresh_replicas}
@@ -8,11 +8,7 @@ use Rattle.chassis.proofs.begin.fresh_all.Goals as goal
 
 pub loop-card-init : goal.loop-card-init
 unfolding fresh_replicas
-loop-card-init c = (omega arith, c.requires.1, rw (zero-mul (replica_length c.args.r c.args.k)))
+loop-card-init c = rw (zero-mul (replica_length c.args.r c.args.k))
 
 pub loop-card-preserved : goal.loop-card-preserved
-loop-card-preserved c = (
-  omega arith,
-  omega arith,
-  c.fresh_card.ensures ∙ rw c.loop-card.invariant.2 (fresh_next c.args.r c.args.k c.loop-card.card c.args.words.now),
-)
+loop-card-preserved c = c.fresh_card.ensures ∙ rw c.loop-card.invariant (fresh_next c.args.r c.args.k c.loop-card.card c.args.words.now)

@@ -1,13 +1,8 @@
--- The invariant: the replicas of the cards passed are fresh, and the words behind them as they were. The measure: the cards left.
-use Rattle.std.proofs.Common.{◌-◌, ◌*◌, ◌≤◌, ◌≡◌, ◌++◌, length, drop}
+-- The invariant: the replicas of the cards passed are fresh, and the words behind them as they were.
+use Rattle.std.proofs.Common.{◌*◌, ◌≡◌, ◌++◌, drop}
 use Rattle.replica_model.specs.Layout.{replica_length}
 use Rattle.chassis_model.specs.Run.{fresh_replicas}
 use Rattle.chassis.proofs.begin.fresh_all.Given as goal
 
 abbrev pub invariant-loop-card : goal.invariant-loop-card
-invariant-loop-card l =
-    (l.card ≤ l.r) × (length l.words ≡ l.r * replica_length l.r l.k)
-    × (l.words ≡ fresh_replicas l.r l.k l.card ++ drop (l.card * replica_length l.r l.k) l.fn.words)
-
-abbrev pub decreases-loop-card : goal.decreases-loop-card
-decreases-loop-card l = l.r - l.card
+invariant-loop-card l = l.words ≡ fresh_replicas l.r l.k l.card ++ drop (l.card * replica_length l.r l.k) l.fn.words

@@ -1,6 +1,6 @@
 -- One step more is done (`bytes_next`), and at the end all are (`bytes_done`).
-use Rattle.std.proofs.Common.{refl, sym, ◌∙◌}
-use Rattle.chassis.specs.StepCodeLaws.{state_of, answers_long}
+use Rattle.std.proofs.Common.{sym}
+use Rattle.chassis.specs.StepCodeLaws.{state_of}
 use Rattle.chassis.proofs.RunningLaws.{bytes_begin, bytes_next, bytes_done}
 use Rattle.chassis.proofs.run.run_steps.Goals as goal
 
@@ -9,16 +9,15 @@ loop-i-init c = (
   c.requires.0,
   bytes_begin c.args.sizes.cards c.args.sizes.counters c.args.sizes.log_bytes c.args.bytes.now c.args.count (state_of c.args.words.now c.args.logs.now) c.args.answers.now
       c.requires.1 c.requires.2,
-  refl,
 )
 
 pub loop-i-preserved : goal.loop-i-preserved
 loop-i-preserved c =
-    let done = c.answer_step-i.ensures in
+    let done = c.answer_step.ensures in
     let more = bytes_next c.args.sizes.cards c.args.sizes.counters c.args.sizes.log_bytes c.args.bytes.now c.args.count (state_of c.args.words.now c.args.logs.now)
     c.step_from-s.result (state_of c.loop-i.words c.loop-i.logs) _ c.loop-i.i c.loop-i.answers c.loop-i-test.true c.step_from-s.ensures
     done.state_is c.loop-i.invariant.1 in
-    (done.given, rw (done.next, done.answers_are) more, answers_long done ∙ c.loop-i.invariant.2)
+    (done.given, rw done.answers_are more)
 
 pub returns : goal.returns
 returns c =

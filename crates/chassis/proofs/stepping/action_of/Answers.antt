@@ -1,37 +1,26 @@
--- By the tests of the kind, one after the other.
-use Rattle.std.proofs.Common.{eq-eqb, ne_eqb}
+-- By the kinds, one after the other.
+use Rattle.std.proofs.Common.{arith, ne_eqb}
 use Rattle.chassis_model.specs.Run.{action_of}
 use Rattle.chassis.proofs.stepping.action_of.Goals as goal
 
-pub returns-then-kind-eq-COUNT : goal.returns-then-kind-eq-COUNT
+pub returns-in-1 : goal.returns-in-1
 unfolding action_of
-returns-then-kind-eq-COUNT c = rw (eq-eqb _ _ c.if-kind-eq-COUNT.true)
+returns-in-1 c = rw c.in-1.is
 
-pub returns-then-kind-eq-CLEAR : goal.returns-then-kind-eq-CLEAR
+pub returns-in-2 : goal.returns-in-2
 unfolding action_of
-returns-then-kind-eq-CLEAR c = rw (ne_eqb _ _ c.if-kind-eq-COUNT.false, eq-eqb _ _ c.if-kind-eq-CLEAR.true)
+returns-in-2 c = rw c.in-2.is
 
-pub returns-then-kind-eq-DELIVER : goal.returns-then-kind-eq-DELIVER
+pub returns-in-3 : goal.returns-in-3
 unfolding action_of
-returns-then-kind-eq-DELIVER c =
-    rw (ne_eqb _ _ c.if-kind-eq-COUNT.false, ne_eqb _ _ c.if-kind-eq-CLEAR.false, eq-eqb _ _ c.if-kind-eq-DELIVER.true)
+returns-in-3 c = rw c.in-3.is
 
-pub returns-then-kind-eq-READ_AND_CLEAR : goal.returns-then-kind-eq-READ_AND_CLEAR
+pub returns-in-4 : goal.returns-in-4
 unfolding action_of
-returns-then-kind-eq-READ_AND_CLEAR c =
-    rw (
-      ne_eqb _ _ c.if-kind-eq-COUNT.false,
-      ne_eqb _ _ c.if-kind-eq-CLEAR.false,
-      ne_eqb _ _ c.if-kind-eq-DELIVER.false,
-      eq-eqb _ _ c.if-kind-eq-READ_AND_CLEAR.true,
-    )
+returns-in-4 c = rw c.in-4.is
 
-pub returns : goal.returns
+pub returns-in_default : goal.returns-in_default
 unfolding action_of
-returns c =
-    rw (
-      ne_eqb _ _ c.if-kind-eq-COUNT.false,
-      ne_eqb _ _ c.if-kind-eq-CLEAR.false,
-      ne_eqb _ _ c.if-kind-eq-DELIVER.false,
-      ne_eqb _ _ c.if-kind-eq-READ_AND_CLEAR.false,
-    )
+returns-in_default c =
+    let kind = c.args.s.kind in
+    rw (ne_eqb kind 1 (omega arith), ne_eqb kind 2 (omega arith), ne_eqb kind 3 (omega arith), ne_eqb kind 4 (omega arith))

@@ -1,8 +1,8 @@
-use Rattle.std.proofs.Common.{◌∙◌, arith, rules}
+use Rattle.std.proofs.Common.{◌∙◌, arith}
 use Rattle.converter.specs.PutLaws.{eights_next}
 use Rattle.converter.proofs.put.copy_eights.Goals as goal
 
 pub loop-i-preserved : goal.loop-i-preserved
 loop-i-preserved c =
     let next = eights_next c.args.bytes.now c.args.out.now c.args.from c.loop-i.i (λ k. omega (arith, c.type_inv.bytes k)) (omega arith) in
-    (search rules, search rules, c.write_u64.ensures ∙ rw (c.read_u64.ensures, c.loop-i.invariant.2) next)
+    c.write.ensures ∙ rw (c.read.ensures, c.loop-i.invariant) next

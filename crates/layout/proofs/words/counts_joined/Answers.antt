@@ -1,11 +1,16 @@
-use Rattle.std.proofs.Common.{refl, arith, add-one}
+use Rattle.std.proofs.Common.{◌+◌, ◌-◌, ◌*◌, ◌<◌, drop, refl, ap, arith, add-one, bit_or, length-take, get_or-take, ◌∙◌}
+use Rattle.std.proofs.lemmas.List.{get_or-drop}
 use Rattle.layout.specs.RowCheck.{joined}
 use Rattle.layout.proofs.words.counts_joined.Goals as goal
 
-pub loop-i-init : goal.loop-i-init
+pub loop-count-init : goal.loop-count-init
 unfolding joined
-loop-i-init c = (omega arith, refl)
+loop-count-init c = refl
 
-pub loop-i-preserved : goal.loop-i-preserved
+pub loop-count-preserved : goal.loop-count-preserved
 unfolding joined
-loop-i-preserved c = (omega arith, rw (add-one c.loop-i.i, ← c.loop-i.invariant.1))
+loop-count-preserved c =
+    let i = c.loop-count.count-index in
+    let behind = drop 4 c.args.words.now in
+    let inside : i < 4 + 2 * c.args.r - 4 = omega (arith, length-take (4 + 2 * c.args.r - 4) behind) in
+    rw (add-one i, ← c.loop-count.invariant) (ap (bit_or c.loop-count.all) (get_or-take (4 + 2 * c.args.r - 4) behind i 0 inside ∙ get_or-drop 4 c.args.words.now i 0))

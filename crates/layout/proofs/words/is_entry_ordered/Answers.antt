@@ -1,27 +1,31 @@
--- Each test that returns rules out one part of `WellFormed`; past all three the entry is ordered, since 0 - p is 0 where p is.
-use Rattle.std.proofs.Common.{◌≡◌, ℕ, ◌+◌, ◌%◌, ◌^◌, ◌≤◌, true, false, arith}
-use Rattle.std.proofs.lemmas.Bool.{false≢true}
+-- Where a test fails one part of `WellFormed` does; past all three the entry is ordered, since 0 - p is 0 where p is.
+use Rattle.std.proofs.Common.{◌≡◌, false, arith, sym, ◌∙◌, leb-true, leb-false}
 use Rattle.protocol.specs.Limits.{MAX}
 use Rattle.protocol.proofs.Cases.{by_le, not_yes}
 use Rattle.protocol.specs.declared.Entry.{Entry}
 use Rattle.protocol.specs.Rows.{WellFormed}
 use Rattle.protocol.specs.Acceptance.{entry_well_formed}
 use Rattle.protocol.proofs.AcceptanceLaws.{entry_facts}
-use Rattle.layout.specs.RowCheck.{Ordered}
 use Rattle.layout.proofs.words.is_entry_ordered.Goals as goal
+use Rattle.layout.proofs.words.is_entry_ordered.Goals.{then-e, else-e}
 
-fails : (e : Entry) → (WellFormed MAX e → ⊥) → (false ≡ true → Ordered e) × (false ≡ false → entry_well_formed e ≡ false)
-fails e not = (λ t. absurd (false≢true t), λ _. not_yes _ (λ formed. not (entry_facts e formed)))
-
--- w is 0 - p in 64 bits
-negated_past : (e : Entry) (w : ℕ) → WellFormed MAX e → (w + e.p) % 2 ^ 64 ≡ 0 → e.c ≤ w
-negated_past e w f wraps = by_le 1 e.p (λ some. omega arith) (λ none. let zero = f.absent_whole (omega arith) in omega arith)
-
-pub returns-then-e : goal.returns-then-e
-returns-then-e c = fails _ (λ f. omega arith)
+fails : (e : Entry) → (WellFormed MAX e → ⊥) → entry_well_formed e ≡ false
+fails e not = not_yes _ (λ formed. not (entry_facts e formed))
 
 pub returns-then-e-2 : goal.returns-then-e-2
-returns-then-e-2 c = fails _ (λ f. omega arith)
+returns-then-e-2 c =
+    let past = c.wrapping_neg.ensures in (
+      λ held. let last = leb-true c.args.e.c c.wrapping_neg.result held in record { cancelled = omega arith; carried = omega arith; empty = λ none. omega arith },
+      λ failed.
+          let last = leb-false c.args.e.c c.wrapping_neg.result failed in
+          fails _ (λ f. by_le 1 c.args.e.p (λ some. omega arith) (λ none. let zero = f.absent_whole (omega arith) in omega arith)),
+    )
 
-pub returns-then-wrapping_sub_u64-e : goal.returns-then-wrapping_sub_u64-e
-returns-then-wrapping_sub_u64-e c = fails _ (λ f. let past = negated_past _ c.wrapping_sub_u64.result f c.wrapping_sub_u64.ensures.value in omega arith)
+pub returns-else-e-2 : goal.returns-else-e-2
+returns-else-e-2 c = (
+  λ passed. absurd (elim c.if-e.branch [
+    | then-e w ↦ let kept = leb-true c.args.e.n c.args.e.p (sym w.t-3-is ∙ passed) in omega arith
+    | else-e w ↦ let kept = leb-true c.args.e.p c.args.e.c (sym w.t-3-is ∙ passed) in omega arith
+  ]),
+  λ _. fails _ (λ f. omega arith),
+)

@@ -1,11 +1,9 @@
--- One sender more (`found_more`).
-use Rattle.std.proofs.Common.{rules}
-use Rattle.lent.specs.PlacesLaws.{found_none, found_more}
+-- What is answered at a log that is not right (`found_wrong`), and at the end (`found_all`).
+use Rattle.lent.specs.PlacesLaws.{found_wrong, found_all}
 use Rattle.lent.proofs.places.find_all_places.Goals as goal
 
-pub loop-sender-init : goal.loop-sender-init
-loop-sender-init c = (search rules, found_none _ _ _ _ c.requires.1)
+pub returns-then-not-find_places : goal.returns-then-not-find_places
+returns-then-not-find_places c = found_wrong _ _ _ _ _ _ c.loop-sender-test.true c.if-not-find_places.ensures
 
-pub loop-sender-preserved : goal.loop-sender-preserved
-loop-sender-preserved c =
-    (search rules, found_more c.args.sizes c.args.words.now c.args.logs.now _ _ _ _ _ c.loop-sender-test.true c.loop-sender.invariant.1 c.find_places-ok.ensures)
+pub returns : goal.returns
+returns c = found_all _ _ _ _ c.loop-sender-test.false _ c.loop-sender.invariant

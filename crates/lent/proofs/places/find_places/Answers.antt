@@ -1,7 +1,6 @@
 -- What is found at each stop on the walk along the sender's log (`Finding`), and at the three returns.
 use Rattle.std.proofs.Common.{◌*◌, ◌∙◌, sym, arith}
 use Rattle.std.proofs.Math.Nat.{add-sub_cancel_left}
-use Rattle.std.proofs.lemmas.Bool.{not-true, not-false}
 use Rattle.chassis_model.specs.ListParts.{part}
 use Rattle.lent.specs.PlacesLaws.{finding_begins, finding_next, found_right, found_missing, found_ahead, found_since}
 use Rattle.lent.proofs.places.find_places.Goals as goal
@@ -14,27 +13,27 @@ returns-then-not-is_none_ahead c =
 pub loop-n-init : goal.loop-n-init
 loop-n-init c = finding_begins _ _ _ _ c.requires.0 c.requires.1 _ _ c.mark.ensures
 
-pub walk-walked-requires : goal.walk-walked-requires
+pub walk-requires : goal.walk-requires
 unfolding part
-walk-walked-requires c = (
+walk-requires c = (
   rw (add-sub_cancel_left (c.args.sender * c.args.sizes.log_bytes) c.args.sizes.log_bytes) c.loop-n.invariant.end,
   omega (arith, c.next_stop-stop.ensures.above),
 )
 
-pub returns-then-not-walked : goal.returns-then-not-walked
+pub returns-in_default : goal.returns-in_default
 unfolding part
-returns-then-not-walked c =
+returns-in_default c =
     let next = rw (c.received-made.ensures c.args.logs.now) at c.next_stop-stop.ensures in
-    let walked = rw (add-sub_cancel_left (c.args.sender * c.args.sizes.log_bytes) c.args.sizes.log_bytes) at c.walk-walked.ensures in
+    let missing = rw (add-sub_cancel_left (c.args.sender * c.args.sizes.log_bytes) c.args.sizes.log_bytes) at c.in_default.ensures in
     found_since _ _ _ _ c.requires.0 c.requires.1 _ _ c.mark.ensures _ _
-    (found_missing _ _ _ _ c.requires.0 c.requires.1 _ _ _ _ c.loop-n.invariant _ next.within (walked.missing (not-true _ c.if-not-walked.true)))
+    (found_missing _ _ _ _ c.requires.0 c.requires.1 _ _ _ _ c.loop-n.invariant _ next.within missing)
 
 pub loop-n-preserved : goal.loop-n-preserved
 unfolding part
 loop-n-preserved c =
     let next = rw (c.received-made.ensures c.args.logs.now) at c.next_stop-stop.ensures in
-    let walked = rw (add-sub_cancel_left (c.args.sender * c.args.sizes.log_bytes) c.args.sizes.log_bytes) at c.walk-walked.ensures in
-    finding_next _ _ _ _ c.requires.0 c.requires.1 _ _ _ _ c.loop-n.invariant _ _ _ next (rw (not-false c.walk-walked.result.ok c.if-not-walked.false) at walked) c.mark-in-loop-n.ensures
+    let arrived = rw (add-sub_cancel_left (c.args.sender * c.args.sizes.log_bytes) c.args.sizes.log_bytes) at c.in-Some.ensures in
+    finding_next _ _ _ _ c.requires.0 c.requires.1 _ _ _ _ c.loop-n.invariant _ _ _ next arrived c.mark-in-loop-n.ensures
 
 pub returns : goal.returns
 returns c =

@@ -1,12 +1,19 @@
--- One receiver more is one test more.
-use Rattle.std.proofs.Common.{rules, refl, add-one, []}
-use Rattle.protocol.specs.Functions.{all_below}
+-- One receiver more that is not ahead, or one that is (`below_fails`).
+use Rattle.std.proofs.Common.{[], sym, arith, le-leb}
+use Rattle.std.proofs.lemmas.Bool.{lt-leb}
+use Rattle.protocol.proofs.Cases.{by_place}
+use Rattle.protocol.proofs.AcceptanceLaws.{below_from}
+use Rattle.lent.specs.Each.{below_fails}
 use Rattle.lent.proofs.places.is_none_ahead.Goals as goal
 
-pub loop-receiver-init : goal.loop-receiver-init
-unfolding all_below
-loop-receiver-init c = (search rules, refl)
+pub returns-then-made-received : goal.returns-then-made-received
+returns-then-made-received c = sym (below_fails c.args.sizes.cards _ c.loop-receiver.receiver c.loop-receiver-test.true (lt-leb _ _ (rw (c.received.ensures []) at c.if-made-received.true)))
 
 pub loop-receiver-preserved : goal.loop-receiver-preserved
-unfolding all_below
-loop-receiver-preserved c = (search rules, rw (add-one c.loop-receiver.receiver, c.loop-receiver.invariant.1, c.received.ensures []))
+loop-receiver-preserved c = λ i l.
+    by_place i c.loop-receiver.receiver
+    (λ e. rw e (le-leb _ _ (rw (c.received.ensures []) at c.if-made-received.false)))
+    (λ d. c.loop-receiver.invariant i (omega arith))
+
+pub returns : goal.returns
+returns c = sym (below_from c.args.sizes.cards _ (λ i l. c.loop-receiver.invariant i (omega arith)))

@@ -1,15 +1,22 @@
--- The receiver's place is marked if it has had that number (`mark_next`).
-use Rattle.std.proofs.Common.{rules, ◌<◌, [], length, arith}
+-- The receiver's place is marked if it has had that number (`mark_next`), else passed (`mark_passed`).
+use Rattle.std.proofs.Common.{◌<◌, [], length, arith, sym, ◌∙◌}
 use Rattle.chassis_model.proofs.Places.{link_place}
-use Rattle.lent.specs.PlacesLaws.{mark_next}
+use Rattle.lent.specs.PlacesLaws.{mark_next, mark_passed}
 use Rattle.lent.proofs.places.mark.Goals as goal
+use Rattle.lent.proofs.places.mark.Goals.{then-received-number, else-received-number}
 
 pub loop-receiver-preserved : goal.loop-receiver-preserved
 loop-receiver-preserved c =
-    let inside : link_place c.loop-receiver.receiver c.args.sender < length c.loop-receiver.places
-    = omega (arith, c.link-which.ensures, c.loop-receiver.invariant.1.size, c.requires.2) in (
-      search rules,
-      rw (c.chosen.ensures, c.received-had.ensures [], c.link-which.ensures.0)
+    let had = c.received.ensures [] in
+    elim c.if-received-number.branch [
+      | then-received-number w ↦
+          let inside : link_place c.loop-receiver.receiver c.args.sender < length c.loop-receiver.places
+          = omega (arith, w.link.ensures, c.loop-receiver.invariant.size, c.requires.2) in
+          rw (w.places-is, w.link.ensures.0)
           (mark_next c.args.sizes c.args.words.now c.args.sender c.args.number c.args.at c.args.places.now c.loop-receiver.receiver c.loop-receiver.places
-          (omega arith) (omega arith) inside c.loop-receiver.invariant.1),
-    )
+          (omega arith) (omega arith) inside (sym had ∙ w.if-received-number.true) c.loop-receiver.invariant)
+      | else-received-number w ↦
+          rw w.places-is
+          (mark_passed c.args.sizes c.args.words.now c.args.sender c.args.number c.args.at c.args.places.now c.loop-receiver.receiver c.loop-receiver.places
+          (λ e. w.if-received-number.false (had ∙ e)) c.loop-receiver.invariant)
+    ]

@@ -1,37 +1,41 @@
--- The bytes from `at` on are what `drop` gives. Where they start with a message that reads, its header is that of the bytes taken alone, and the test on it
--- is what `is_numbered` says (`numbered_some`).
-use Rattle.std.proofs.Common.{rules, ℕ, ◌-◌, ◌≡◌, ◌&&◌, nat_eq, List, length, take, drop, ◌∙◌, arith, length-drop, length-take-le}
+-- The bytes from `at` on are what `drop` gives. Where they start with a message that reads, the test on its header is what `is_numbered` says (`numbered_some`).
+use Rattle.std.proofs.Common.{ℕ, ◌-◌, ◌≡◌, ◌&&◌, ◌⊎◌, inl, inr, false, Option, nat_eq, List, length, take, drop, ◌∙◌, arith, eq-eqb, ne_eqb}
+use Rattle.protocol.proofs.Cases.{and_yes, and_no_left, and_no_right}
 use Rattle.wire.specs.Message.{version_2, front_length}
+use Rattle.wire.specs.Told.{unless_0}
 use Rattle.wire.specs.MessageParts.{header_at}
 use Rattle.wire.specs.MessagePartsLaws.{header_read}
 use Rattle.wire.specs.declared.reader.Header.{Header}
 use Rattle.chassis_model.specs.Pending.{is_numbered}
 use Rattle.chassis.proofs.LogWalkLaws.{rest_is}
-use Rattle.lent.specs.PlacesLaws.{front_long, numbered_some}
+use Rattle.lent.specs.PlacesLaws.{length_there, front_inside, numbered_some}
 use Rattle.lent.proofs.places.message_length.Goals as goal
 
 -- the test on the header is the definition's
-header_test : (log : List ℕ) (at s q n : ℕ) → n ≡ front_length version_2 (drop at log) → (n ≡ 0 → ⊥)
-    → (h : Header) → h ≡ header_at (take n (take (length log - at) (drop at log))) 0
+header_test : (log : List ℕ) (at s q n : ℕ) → Option.Some n ≡ unless_0 (front_length version_2 (take (length log - at) (drop at log)))
+    → (h : Header) → h ≡ header_at (take (length log - at) (drop at log)) 0
     → is_numbered s q (take (front_length version_2 (drop at log)) (drop at log)) ≡ nat_eq h.sender s && nat_eq h.sequence q
-header_test log at s q n front some h e =
-    let read = header_read _ _ (rw (rest_is at log, front) at e) in
-    rw (read.sender, read.sequence) (numbered_some s q (drop at log) (λ none. some (front ∙ none)))
+header_test log at s q n length_is h e =
+    let there = length_there n (front_length version_2 (drop at log)) (rw (rest_is at log) at length_is) in
+    let read = header_read _ _ (rw (rest_is at log) at e) in
+    rw (read.sender, read.sequence) (numbered_some s q (drop at log) there.1)
 
-pub header_from-header-requires : goal.header_from-header-requires
-header_from-header-requires c =
-    let front = rw (rest_is c.args.at c.args.log.now) at c.front_length-length.ensures in
-    rw (rest_is c.args.at c.args.log.now, length-take-le _ _ front.1)
-    (omega (arith, front.0, front_long (drop c.args.at c.args.log.now) (λ none. c.if-length-eq0.false (front.0 ∙ none))))
+pub header-header-requires : goal.header-header-requires
+header-header-requires c =
+    let there = length_there c.in_ok-length.length (front_length version_2 (drop c.args.at c.args.log.now)) (rw (rest_is c.args.at c.args.log.now) at c.in_ok-length.ensures.length) in
+    rw (rest_is c.args.at c.args.log.now) (omega (arith, front_inside (drop c.args.at c.args.log.now) there.1))
 
-pub returns-then-header-sender : goal.returns-then-header-sender
-returns-then-header-sender c =
-    let front = rw (rest_is c.args.at c.args.log.now) at c.front_length-length.ensures in
-    let test = header_test c.args.log.now c.args.at c.args.sender c.args.number _ front.0 c.if-length-eq0.false _ c.header_from-header.ensures in
-    (front.0 ∙ rw (test, c.if-header-sender.true), omega (arith, front.1, length-drop c.args.at c.args.log.now))
+pub returns-then-header-number-clause-length : goal.returns-then-header-number-clause-length
+returns-then-header-number-clause-length c =
+    let test = header_test c.args.log.now c.args.at c.args.sender c.args.number c.in_ok-length.length c.in_ok-length.ensures.length _ c.header-header.ensures.0 in
+    rw (test ∙ and_yes _ _ (eq-eqb _ _ c.if-header-sender.true) (eq-eqb _ _ c.if-header-number.true))
+    (rw (rest_is c.args.at c.args.log.now) at c.in_ok-length.ensures.length)
 
-pub returns : goal.returns
-returns c =
-    let front = rw (rest_is c.args.at c.args.log.now) at c.front_length-length.ensures in
-    let test = header_test c.args.log.now c.args.at c.args.sender c.args.number _ front.0 c.if-length-eq0.false _ c.header_from-header.ensures in
-    (rw (test, c.if-header-sender.false), search rules)
+pub returns-else-header-sender-clause-length : goal.returns-else-header-sender-clause-length
+returns-else-header-sender-clause-length c =
+    let test = header_test c.args.log.now c.args.at c.args.sender c.args.number c.in_ok-length.length c.in_ok-length.ensures.length _ c.header-header.ensures.0 in
+    rw (test ∙ other c.header-header.result.sender c.args.sender c.header-header.result.sequence c.args.number c.else-header-sender.either)
+  where
+    other : (a s b q : ℕ) → ((a ≡ s) × (b ≡ q → ⊥)) ⊎ (a ≡ s → ⊥) → nat_eq a s && nat_eq b q ≡ false
+    other a s b q (inl apart) = and_no_right (nat_eq a s) _ (ne_eqb b q apart.1)
+    other a s b q (inr apart) = and_no_left _ (nat_eq b q) (ne_eqb a s apart)

@@ -1,11 +1,19 @@
--- What the receiver has had may be a nearer stop (`stop_next`).
-use Rattle.std.proofs.Common.{rules, []}
-use Rattle.lent.specs.PlacesLaws.{stop_next}
+-- What the receiver has had may be a nearer stop (`stop_next`), or it is passed (`stop_passed`).
+use Rattle.std.proofs.Common.{[]}
+use Rattle.lent.specs.PlacesLaws.{stop_next, stop_passed}
 use Rattle.lent.proofs.places.next_stop.Goals as goal
+use Rattle.lent.proofs.places.next_stop.Goals.{then-passed-had, else-passed-had}
 
 pub loop-receiver-preserved : goal.loop-receiver-preserved
-loop-receiver-preserved c = (
-  search rules,
-  rw (c.nearer-stop.ensures, c.received.ensures [])
-      (stop_next c.args.sizes c.args.words.now c.args.sender c.args.passed c.args.made c.loop-receiver.receiver c.loop-receiver.stop c.loop-receiver.invariant.1),
-)
+loop-receiver-preserved c =
+    let had = c.received-had.ensures [] in
+    elim c.if-passed-had.branch [
+      | then-passed-had w ↦
+          rw (w.stop-is, w.min-stop.ensures, had)
+          (stop_next c.args.sizes c.args.words.now c.args.sender c.args.passed c.args.made c.loop-receiver.receiver c.loop-receiver.stop
+          (rw had at w.if-passed-had.true) c.loop-receiver.invariant)
+      | else-passed-had w ↦
+          rw w.stop-is
+          (stop_passed c.args.sizes c.args.words.now c.args.sender c.args.passed c.args.made c.loop-receiver.receiver c.loop-receiver.stop
+          (rw had at w.if-passed-had.false) c.loop-receiver.invariant)
+    ]

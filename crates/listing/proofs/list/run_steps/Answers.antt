@@ -7,11 +7,12 @@ use Rattle.listing.proofs.list.run_steps.Goals as goal
 
 pub returns : goal.returns
 returns c =
-    let steps = c.args.steps.now in
-    let few_cards : c.args.cards * log_bytes ≤ most_listed_cards * log_bytes = omega arith in
+    let cards = c.args.input.cards in
+    let steps = c.args.input.steps.now in
+    let few_cards : cards * log_bytes ≤ most_listed_cards * log_bytes = omega arith in
     let few_steps : answer_length * (length steps / step_length) ≤ answer_length * most_listed_steps = omega arith in
-    run_words_are c.args.cards c.args.counters steps _ _ _ _ _ _ _
+    run_words_are cards c.args.input.counters steps _ _ _ _ _ _ _
     c.requires.1
-    (take_replicate (c.args.cards * log_bytes) (most_listed_cards * log_bytes) 0 few_cards)
+    (take_replicate (cards * log_bytes) (most_listed_cards * log_bytes) 0 few_cards)
     (take_replicate (answer_length * (length steps / step_length)) (answer_length * most_listed_steps) 0 few_steps)
     c.run.ensures

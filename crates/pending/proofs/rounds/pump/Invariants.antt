@@ -4,8 +4,8 @@ use Rattle.std.proofs.Common.{◌+◌, ◌-◌}
 use Rattle.pending.specs.RoundsLaws.{Pumping}
 use Rattle.pending.proofs.rounds.pump.Given as goal
 
-abbrev pub invariant-loop-count : goal.invariant-loop-count
-invariant-loop-count l = Pumping l.sizes l.most l.initial.words l.logs l.words l.places l.list l.made l.count
+abbrev pub invariant-loop-list : goal.invariant-loop-list
+invariant-loop-list l = Pumping l.sizes l.most l.initial.words l.logs l.words l.places l.list l.made
 
-abbrev pub decreases-loop-count : goal.decreases-loop-count
-decreases-loop-count l = (l.most - l.made) + l.count
+abbrev pub decreases-loop-list : goal.decreases-loop-list
+decreases-loop-list l = (l.most - l.made) + l.list.count

@@ -1,17 +1,28 @@
--- One turn (`rounding_turn`) leaves what the next one is given (`rounding_next`).
-use Rattle.replica_model.proofs.RowLaws.{tests}
-use Rattle.pending.specs.RoundsLaws.{one_at_end, rounding_turn, rounding_next, rounding_done}
+-- One turn (`rounding_turn`) leaves what the next one is given: its link is kept (`rounding_kept`) or left out (`rounding_left_out`).
+use Rattle.std.proofs.Common.{inl, inr, refl}
+use Rattle.pending.specs.RoundsLaws.{rounding_turn, rounding_kept, rounding_left_out, rounding_done}
 use Rattle.pending.proofs.rounds.round.Goals as goal
+use Rattle.pending.proofs.rounds.round.Goals.{in-Declined, in-Open, in-Done}
 
-pub turn-done-requires : goal.turn-done-requires
-turn-done-requires c =
-    let going = simp tests at c.loop-next-test.true in
-    rounding_turn _ _ _ _ _ _ _ _ _ _ _ _ _ c.loop-next.invariant going.0
+pub take_turn-requires : goal.take_turn-requires
+take_turn-requires c = rounding_turn _ _ _ _ _ _ _ _ _ _ _ _ _ c.loop-next.invariant c.loop-next-test.true
 
 pub loop-next-preserved : goal.loop-next-preserved
 loop-next-preserved c =
-    let going = simp tests at c.loop-next-test.true in
-    rounding_next _ _ _ _ _ _ _ _ _ _ _ _ _ c.loop-next.invariant going.0 going.1 _ _ _ _ c.turn-done.ensures
+    elim c.match-take_turn.branch [
+      | in-Declined w ↦
+          rw (w.list-is, w.made-is)
+          (rounding_left_out _ _ _ _ _ _ _ _ _ _ _ _ _ c.loop-next.invariant c.loop-next-test.true c.if-most-made.false _ _ _ w.in-Declined.ensures refl)
+      | in-Open w ↦
+          rw (w.list-is, w.push.ensures, w.made-is)
+          (rounding_kept _ _ _ _ _ _ _ _ _ _ _ _ _ c.loop-next.invariant c.loop-next-test.true c.if-most-made.false _ _ _ w.in-Open.ensures refl)
+      | in-Done w ↦
+          rw (w.list-is, w.made-is)
+          (rounding_left_out _ _ _ _ _ _ _ _ _ _ _ _ _ c.loop-next.invariant c.loop-next-test.true c.if-most-made.false _ _ _ w.in-Done.ensures refl)
+    ]
 
-pub returns : goal.returns
-returns c = rounding_done _ _ _ _ _ _ _ _ _ _ _ _ _ c.loop-next.invariant (one_at_end _ _ _ _ c.loop-next-test.false)
+pub returns-then-most-made : goal.returns-then-most-made
+returns-then-most-made c = rounding_done _ _ _ _ _ _ _ _ _ _ _ _ _ c.loop-next.invariant (inr c.if-most-made.true)
+
+pub returns-after-loop-next : goal.returns-after-loop-next
+returns-after-loop-next c = rounding_done _ _ _ _ _ _ _ _ _ _ _ _ _ c.loop-next.invariant (inl c.loop-next-test.false)

@@ -4,4 +4,4 @@ use Rattle.layout.specs.WordsLaws.{fresh_made}
 use Rattle.replica.proofs.open.write_fresh.Goals as goal
 
 pub returns : goal.returns
-returns c = c.set_head.ensures ∙ rw c.zero_all.ensures (fresh_made _ c.args.cards c.args.counters c.args.own c.requires)
+returns c = c.set_head.ensures ∙ rw (c.fill.ensures.after (λ y same. same)) (fresh_made _ c.args.cards c.args.counters c.args.own c.requires)

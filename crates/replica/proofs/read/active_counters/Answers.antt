@@ -5,13 +5,13 @@ use Rattle.replica_model.proofs.RowLaws.{right_facts}
 use Rattle.layout.specs.WordsLaws.{head_inside}
 use Rattle.replica.proofs.read.active_counters.Goals as goal
 
-pub returns-then-not-is_right : goal.returns-then-not-is_right
+pub returns-else-is_right : goal.returns-else-is_right
 unfolding active_on
-returns-then-not-is_right c = rw (sym c.is_right.ensures ∙ c.if-not-is_right.true)
+returns-else-is_right c = rw (sym c.is_right.ensures ∙ c.if-is_right.false)
 
 pub active_counters-requires : goal.active_counters-requires
-active_counters-requires c = head_inside _ (right_facts _ (sym c.is_right.ensures ∙ c.if-not-is_right.false))
+active_counters-requires c = head_inside _ (right_facts _ (sym c.is_right.ensures ∙ c.if-is_right.true))
 
-pub returns : goal.returns
+pub returns-then-is_right : goal.returns-then-is_right
 unfolding active_on
-returns c = rw (sym c.is_right.ensures ∙ c.if-not-is_right.false, c.active_counters.ensures)
+returns-then-is_right c = rw (sym c.is_right.ensures ∙ c.if-is_right.true, c.active_counters.ensures)

@@ -7,28 +7,28 @@ use Rattle.replica.proofs.read.read.Goals as goal
 
 pub returns-then-not-is_right : goal.returns-then-not-is_right
 unfolding read_on
-returns-then-not-is_right c = simp (sym c.is_right.ensures ∙ c.if-not-is_right.true) c.refused.ensures
+returns-then-not-is_right c = simp (sym c.is_right.ensures ∙ c.if-not-is_right.true)
 
-pub cards_of-r-requires : goal.cards_of-r-requires
-cards_of-r-requires c = head_inside _ (right_facts _ (sym c.is_right.ensures ∙ c.if-not-is_right.false))
+pub counters_of-requires : goal.counters_of-requires
+counters_of-requires c = head_inside _ (right_facts _ (sym c.is_right.ensures ∙ c.if-not-is_right.false))
 
-pub counters_of-k-requires : goal.counters_of-k-requires
-counters_of-k-requires c = head_inside _ (right_facts _ (sym c.is_right.ensures ∙ c.if-not-is_right.false))
+pub cards_of-requires : goal.cards_of-requires
+cards_of-requires c = head_inside _ (right_facts _ (sym c.is_right.ensures ∙ c.if-not-is_right.false))
 
-pub returns-then-k-counter : goal.returns-then-k-counter
+pub returns-then-counter-counters_of : goal.returns-then-counter-counters_of
 unfolding read_on
-returns-then-k-counter c =
-    simp (sym c.is_right.ensures ∙ c.if-not-is_right.false, le-ltb _ _ (rw c.counters_of-k.ensures at c.if-k-counter.true)) c.refused-then-k-counter.ensures
+returns-then-counter-counters_of c =
+    simp (sym c.is_right.ensures ∙ c.if-not-is_right.false, le-ltb _ _ (rw c.counters_of.ensures at c.if-counter-counters_of.true))
 
 pub row_reading-requires : goal.row_reading-requires
 row_reading-requires c =
     record {
       right = right_facts _ (sym c.is_right.ensures ∙ c.if-not-is_right.false);
-      first = c.cards_of-r.ensures;
-      counter = rw c.index.ensures (rw c.counters_of-k.ensures at c.if-k-counter.false);
+      first = c.cards_of.ensures;
+      counter = rw c.counters_of.ensures at c.if-counter-counters_of.false;
     }
 
 pub returns : goal.returns
 unfolding read_on
 returns c =
-    simp (sym c.is_right.ensures ∙ c.if-not-is_right.false, lt-ltb _ _ (rw c.counters_of-k.ensures at c.if-k-counter.false), ← c.index.ensures) c.row_reading.ensures
+    simp (sym c.is_right.ensures ∙ c.if-not-is_right.false, lt-ltb _ _ (rw c.counters_of.ensures at c.if-counter-counters_of.false)) c.row_reading.ensures

@@ -1,5 +1,5 @@
 -- The invariant: the row is checked, the value is the sum, modulo 2^64, and the holders are the mask of the cards so far.
-use Rattle.std.proofs.Common.{◌≡◌, ◌-◌, ◌%◌, ◌^◌}
+use Rattle.std.proofs.Common.{◌≡◌, ◌%◌, ◌^◌}
 use Rattle.protocol.specs.Entry.{present}
 use Rattle.protocol.proofs.Tables.{sum, bits}
 use Rattle.replica_model.specs.Layout.{entry_of}
@@ -7,9 +7,7 @@ use Rattle.layout.specs.RowCheck.{Checked}
 use Rattle.layout.specs.Totals.{held}
 use Rattle.replica.proofs.read.row_reading.Given as goal
 
-abbrev pub invariant-loop-j : goal.invariant-loop-j
-invariant-loop-j l =
-    Checked l.words l.r l.q l.j l.high × (l.value ≡ sum l.j (held (entry_of l.r l.words l.q)) % 2 ^ 64) × (l.holders ≡ bits l.j (λ j. present (entry_of l.r l.words l.q j)))
-
-abbrev pub decreases-loop-j : goal.decreases-loop-j
-decreases-loop-j l = l.r - l.j
+abbrev pub invariant-loop-card : goal.invariant-loop-card
+invariant-loop-card l =
+    let row = entry_of l.row.cards l.words l.row.counter in
+    Checked l.words l.row.cards l.row.counter l.card l.high × (l.value ≡ sum l.card (held row) % 2 ^ 64) × (l.holders ≡ bits l.card (λ j. present (row j)))

@@ -1,13 +1,50 @@
--- The answer without its value (`answer_refused`, `answer_sent`), which is what `read_and_clear_on` puts beside `clear_on`.
-use Rattle.replica_model.specs.Calls.{read_and_clear_on}
-use Rattle.replica_model.proofs.CallsLaws.{clear_decided}
-use Rattle.sending.specs.SendLaws.{answer_refused, answer_sent}
+-- The refusal says which check failed, or the row that none did (`read_and_clear_refused`, `read_and_clear_passed`); then the room decides.
+use Rattle.std.proofs.Common.{◌≡◌, ℕ, List, Bool, true, length, leb, sym, ap, ◌∙◌}
+use Rattle.std.proofs.lemmas.Result.{err_from_is_err_and}
+use borrow.Author.Tests.{leb-true, leb-false}
+use Rattle.protocol.specs.Chassis.{Message, present_entries}
+use Rattle.wire.specs.Message.{clear_length}
+use Rattle.replica_model.specs.Layout.{cards, entry_of}
+use Rattle.replica_model.specs.Format.{size_of}
+use Rattle.replica_model.specs.Calls.{clear_of, with_value_read}
+use Rattle.sending.specs.SendLaws.{sends, row_inside, clear_made, too_short, read_and_clear_refused, read_and_clear_passed}
 use Rattle.sending.proofs.clearing.clear.Goals as goal
 
-pub returns-then-a-ne0 : goal.returns-then-a-ne0
-unfolding read_and_clear_on
-returns-then-a-ne0 c = answer_refused _ _ _ c.made-a.ensures _ _ (clear_decided _ _ _).refused c.if-a-ne0.true
+-- whether there is room for the clear
+roomy : (b out : List ℕ) (r q counter : ℕ) (t : Bool) → r ≡ cards b → q ≡ counter → t ≡ leb (clear_length (length (present_entries r (entry_of r b q)))) (length out)
+    → leb (size_of (clear_of b counter)) (length out) ≡ t
+roomy b out r q counter t first same is = sym (is ∙ rw same (ap (λ (m : Message). leb (size_of m) (length out)) (clear_made b counter r first)))
+
+pub returns-in_err-row : goal.returns-in_err-row
+returns-in_err-row c =
+    let p = err_from_is_err_and c.from_residual.result c.from_residual.ensures.1 in
+    rw (p.1, p.2) (read_and_clear_refused _ _ c.args.out.now c.in_err-row.field-0.0 c.in_err-row.ensures.checked)
+
+pub has_room-requires : goal.has_room-requires
+has_room-requires c = rw c.in_ok-row.ensures.row.1 (row_inside _ _ _ _ c.in_ok-row.ensures.row.0 (sends _ _ true 0 c.in_ok-row.ensures.checked).0)
+
+pub returns-then-not-has_room : goal.returns-then-not-has_room
+returns-then-not-has_room c =
+    let b = c.args.words.now in
+    let q = c.args.counter in
+    let out = c.args.out.now in
+    ap (with_value_read b q) (too_short b out (clear_of b q) (leb-false _ _ (roomy b out _ _ q _ c.in_ok-row.ensures.row.0 c.in_ok-row.ensures.row.1 c.if-not-has_room.ensures)))
+    ∙ read_and_clear_passed b q out c.in_ok-row.ensures.checked
+
+pub make-requires : goal.make-requires
+make-requires c =
+    let b = c.args.words.now in
+    let q = c.args.counter in
+    rw c.in_ok-row.ensures.row.1 (
+      c.in_ok-row.ensures.row.0,
+      (sends b q true 0 c.in_ok-row.ensures.checked).0,
+      leb-true _ _ (roomy b c.args.out.now _ _ q _ c.in_ok-row.ensures.row.0 c.in_ok-row.ensures.row.1 c.if-not-has_room.ensures),
+    )
 
 pub returns : goal.returns
-unfolding read_and_clear_on
-returns c = answer_sent _ _ _ c.made-a.ensures c.if-a-ne0.false
+returns c =
+    let b = c.args.words.now in
+    let q = c.args.counter in
+    let out = c.args.out.now in
+    (rw c.in_ok-row.ensures.row.1 at c.make.ensures)
+    ∙ (rw (roomy b out _ _ q _ c.in_ok-row.ensures.row.0 c.in_ok-row.ensures.row.1 c.if-not-has_room.ensures) at (read_and_clear_passed b q out c.in_ok-row.ensures.checked))

@@ -18,51 +18,51 @@ module _ (b : List ℕ) (r q : ℕ) (first : r ≡ cards b) (h : Sending b q 0) 
   entry_small : j < r → (e : Entry) → e ≡ entry_of r b' q j → WellFormed MAX e
   entry_small l e found = rw (found ∙ making_next b r q first h _ _ _ _ _ _ m l) (sent_well_formed b r q first h j l)
 
-pub loop-j-init : goal.loop-j-init
-loop-j-init c = making_begins _ _ _ _ _ c.set_quiet.ensures
+pub loop-card-init : goal.loop-card-init
+loop-card-init c = making_begins _ _ _ _ _ c.set_active.ensures
 
-pub entry_at-e-requires : goal.entry_at-e-requires
-entry_at-e-requires c = ((making_stays _ _ _ c.requires.0 c.requires.1 _ _ _ _ _ _ c.loop-j.invariant).inside, c.loop-j-test.true)
+pub entry-e-requires : goal.entry-e-requires
+entry-e-requires c = ((making_stays _ _ _ c.requires.0 c.requires.1 _ _ _ _ _ _ c.loop-card.invariant).inside, c.loop-card-test.true)
 
 pub overflow_sub-value : goal.overflow_sub-value
-overflow_sub-value c = (entry_small _ _ _ c.requires.0 c.requires.1 _ _ _ _ _ _ c.loop-j.invariant c.loop-j-test.true _ c.entry_at-e.ensures).n≤p
+overflow_sub-value c = (entry_small _ _ _ c.requires.0 c.requires.1 _ _ _ _ _ _ c.loop-card.invariant c.loop-card-test.true _ c.entry-e.ensures).n≤p
 
 pub overflow_add-value : goal.overflow_add-value
 overflow_add-value c =
-    let small = entry_small _ _ _ c.requires.0 c.requires.1 _ _ _ _ _ _ c.loop-j.invariant c.loop-j-test.true _ c.entry_at-e.ensures in
-    omega (arith, making_small _ _ _ c.requires.0 c.requires.1 _ _ _ _ _ _ c.loop-j.invariant, few_cards _ _ _ (row_inside _ _ _ _ c.requires.0 c.requires.1))
+    let small = entry_small _ _ _ c.requires.0 c.requires.1 _ _ _ _ _ _ c.loop-card.invariant c.loop-card-test.true _ c.entry-e.ensures in
+    omega (arith, making_small _ _ _ c.requires.0 c.requires.1 _ _ _ _ _ _ c.loop-card.invariant, few_cards _ _ _ (row_inside _ _ _ _ c.requires.0 c.requires.1))
 
 pub make_entry-len-requires : goal.make_entry-len-requires
 make_entry-len-requires c =
-    let m = c.loop-j.invariant in
-    let more = c.loop-j-test.true in (
+    let m = c.loop-card.invariant in
+    let more = c.loop-card-test.true in (
       (making_stays _ _ _ c.requires.0 c.requires.1 _ _ _ _ _ _ m).inside,
       more,
-      rw c.entry_at-e.ensures at (entry_small _ _ _ c.requires.0 c.requires.1 _ _ _ _ _ _ m more _ c.entry_at-e.ensures).n≤p,
+      rw c.entry-e.ensures at (entry_small _ _ _ c.requires.0 c.requires.1 _ _ _ _ _ _ m more _ c.entry-e.ensures).n≤p,
       making_room _ _ _ c.requires.0 c.requires.1 _ _ _ _ _ _ m more (omega (arith, c.requires.2)),
       making_few _ _ _ _ _ _ _ _ _ m,
     )
 
-pub loop-j-preserved : goal.loop-j-preserved
-loop-j-preserved c =
+pub loop-card-preserved : goal.loop-card-preserved
+loop-card-preserved c =
     let done = c.make_entry-len.ensures in
-    rw c.entry_at-e.ensures
-    (making_turn _ _ _ c.requires.0 c.requires.1 _ _ _ _ _ _ c.loop-j.invariant c.loop-j-test.true _ _ _ done.0 done.1 done.2)
+    rw c.entry-e.ensures
+    (making_turn _ _ _ c.requires.0 c.requires.1 _ _ _ _ _ _ c.loop-card.invariant c.loop-card-test.true _ _ _ done.0 done.1 done.2)
 
 pub overflow_cast-len : goal.overflow_cast-len
-overflow_cast-len c = omega (arith, len_few _ _ _ c.requires.0 c.requires.1 _ _ _ _ _ _ c.loop-j.invariant)
+overflow_cast-len c = omega (arith, len_few _ _ _ c.requires.0 c.requires.1 _ _ _ _ _ _ c.loop-card.invariant)
 
 pub clear_length-requires : goal.clear_length-requires
-clear_length-requires c = omega (arith, len_few _ _ _ c.requires.0 c.requires.1 _ _ _ _ _ _ c.loop-j.invariant)
+clear_length-requires c = omega (arith, len_few _ _ _ c.requires.0 c.requires.1 _ _ _ _ _ _ c.loop-card.invariant)
 
 pub returns : goal.returns
 returns c =
     let own = c.own_card-own.result in
-    let own_in : own < c.args.r = omega (arith, c.own_card-own.ensures, own_below _ _ _ _ c.requires.0 c.requires.1) in
-    let stays = making_stays _ _ _ c.requires.0 c.requires.1 _ _ _ _ _ _ c.loop-j.invariant in
-    let all : c.loop-j.j ≡ c.args.r = omega (arith, c.loop-j.invariant.within, c.loop-j-test.false) in
-    let header = header_written _ _ _ _ c.args.out.now _ _ _ _ _ c.write_u32.ensures c.write_u32-2.ensures c.write_u32-3.ensures c.write_u64.ensures c.write_u32-4.ensures
+    let own_in : own < c.args.row.cards = omega (arith, c.own_card-own.ensures, own_below _ _ _ _ c.requires.0 c.requires.1) in
+    let stays = making_stays _ _ _ c.requires.0 c.requires.1 _ _ _ _ _ _ c.loop-card.invariant in
+    let all : c.loop-card.card ≡ c.args.row.cards = omega (arith, c.loop-card.invariant.within, c.loop-card-test.false) in
+    let header = header_written _ _ _ _ c.args.out.now _ _ _ _ _ c.write.ensures c.write-2.ensures c.write-3.ensures c.write-4.ensures c.write-5.ensures
     ∙ rw (c.messages_at.ensures, c.own_card.ensures ∙ sym c.own_card-own.ensures) in
     rw c.clear_length.ensures
-    (clear_sent _ _ _ c.requires.0 c.requires.1 _ _ _ _ _ _ _ _ _ _ _ c.requires.2 c.own_card-own.ensures header all c.loop-j.invariant
-    (ap (λ (x : ℕ). x + 1) (c.messages_at-messages.ensures ∙ sym (stays.N_stays _ own_in))) c.write_u32-5.ensures c.set_messages.ensures)
+    (clear_sent _ _ _ c.requires.0 c.requires.1 _ _ _ _ _ _ _ _ _ _ _ c.requires.2 c.own_card-own.ensures header all c.loop-card.invariant
+    (ap (λ (x : ℕ). x + 1) (c.messages_at-messages.ensures ∙ sym (stays.N_stays _ own_in))) c.write-6.ensures c.set_messages.ensures)

@@ -6,5 +6,5 @@ use Rattle.sending.proofs.counting.counted_entry.Goals as goal
 pub returns-then-e-gt0 : goal.returns-then-e-gt0
 returns-then-e-gt0 c = (counted_on _ _ _ c.requires.0 c.requires.2 c.requires.4 c.if-e-gt0.true, omega arith)
 
-pub returns : goal.returns
-returns c = (counted_anew _ _ _ c.requires.0 c.requires.2 c.requires.4 c.if-e-gt0.false, omega arith)
+pub returns-else-e-gt0 : goal.returns-else-e-gt0
+returns-else-e-gt0 c = (counted_anew _ _ _ c.requires.0 c.requires.2 c.requires.4 c.if-e-gt0.false, omega arith)

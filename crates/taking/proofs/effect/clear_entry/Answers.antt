@@ -8,11 +8,11 @@ use Rattle.taking.proofs.effect.clear_entry.Goals as goal
 pub returns-then-is_settled : goal.returns-then-is_settled
 returns-then-is_settled c =
     c.put_absent.ensures
-    ∙ ap (λ (x : Entry). set_entry c.args.r c.args.q c.args.entry.card x c.args.words.now)
-    (cleared_gone c.args.entry.p c.args.entry.c _ _ c.requires.2 (c.larger_entry-lowered.ensures ∙ rw c.entry_at-e.ensures) c.increments_at-received.ensures (sym c.is_settled.ensures ∙ c.if-is_settled.true))
+    ∙ ap (λ (x : Entry). set_entry c.args.row.cards c.args.row.counter c.args.entry.card x c.args.words.now)
+    (cleared_gone c.args.entry.p c.args.entry.c _ _ c.requires.2 (c.larger_entry-lowered.ensures ∙ rw c.entry-e.ensures) c.increments_at-received.ensures (sym c.is_settled.ensures ∙ c.if-is_settled.true))
 
-pub returns : goal.returns
-returns c =
+pub returns-else-is_settled : goal.returns-else-is_settled
+returns-else-is_settled c =
     c.put_entry.ensures
-    ∙ ap (λ (x : Entry). set_entry c.args.r c.args.q c.args.entry.card x c.args.words.now)
-    (cleared_stays c.args.entry.p c.args.entry.c _ _ c.requires.2 (c.larger_entry-lowered.ensures ∙ rw c.entry_at-e.ensures) c.increments_at-received.ensures (sym c.is_settled.ensures ∙ c.if-is_settled.false))
+    ∙ ap (λ (x : Entry). set_entry c.args.row.cards c.args.row.counter c.args.entry.card x c.args.words.now)
+    (cleared_stays c.args.entry.p c.args.entry.c _ _ c.requires.2 (c.larger_entry-lowered.ensures ∙ rw c.entry-e.ensures) c.increments_at-received.ensures (sym c.is_settled.ensures ∙ c.if-is_settled.false))

@@ -6,6 +6,6 @@ pub returns-then-start : goal.returns-then-start
 unfolding increment_plausible
 returns-then-start c = rw c.if-start.true
 
-pub returns : goal.returns
+pub returns-else-start : goal.returns-else-start
 unfolding increment_plausible
-returns c = rw c.if-start.false
+returns-else-start c = rw c.if-start.false

@@ -3,10 +3,7 @@ use Rattle.std.proofs.Common.{◌≡◌, ◌+◌, ◌-◌, ◌*◌, ◌≤◌, l
 use Rattle.wire.specs.Message.{entry_length, entries_at, entries_in_range}
 use Rattle.wire.proofs.decode.are_entries_in_range.Given as goal
 
-abbrev pub invariant-loop-i : goal.invariant-loop-i
-invariant-loop-i l =
-    (l.i ≤ l.count) × (l.place + entry_length * (l.count - l.i) ≤ length l.bytes)
-    × (entries_in_range l.low (entries_at (l.count - l.i) l.bytes l.place) ≡ entries_in_range 0 (entries_at l.count l.bytes l.at))
-
-abbrev pub decreases-loop-i : goal.decreases-loop-i
-decreases-loop-i l = l.count - l.i
+abbrev pub invariant-loop : goal.invariant-loop
+invariant-loop l =
+    (l.rest.at + entry_length * (l.count - l.counter) ≤ length l.rest.src.now)
+    × (entries_in_range l.low (entries_at (l.count - l.counter) l.rest.src.now l.rest.at) ≡ entries_in_range 0 (entries_at l.count l.fn.rest.src.now l.fn.rest.at))

@@ -1,14 +1,9 @@
--- The message holds the entries read so far, and zeros past them.
-use Rattle.std.proofs.Common.{◌≡◌, ◌+◌, ◌-◌, ◌*◌, ◌≤◌, ◌++◌, length, replicate}
-use Rattle.protocol.specs.Limits.{most_cards}
-use Rattle.wire.specs.Message.{entry_length, no_entry, entries_at}
-use Rattle.wire.specs.EntriesLaws.{holding}
+-- The places passed hold the entries read so far.
+use Rattle.std.proofs.Common.{◌≡◌, ◌+◌, ◌*◌, ◌++◌, drop}
+use Rattle.wire.specs.Message.{entry_length, entries_at}
 use Rattle.wire.proofs.decode.clear_message.Given as goal
 
-abbrev pub invariant-loop-i : goal.invariant-loop-i
-invariant-loop-i l =
-    (l.i ≤ l.len) × (l.len ≤ most_cards) × (l.initial.place + entry_length * l.len ≤ length l.bytes) × (l.place ≡ l.initial.place + entry_length * l.i)
-    × (l.m ≡ holding l.initial.m (entries_at l.i l.bytes l.initial.place ++ replicate (most_cards - l.i) no_entry))
-
-abbrev pub decreases-loop-i : goal.decreases-loop-i
-decreases-loop-i l = l.len - l.i
+abbrev pub invariant-loop-entry : goal.invariant-loop-entry
+invariant-loop-entry l =
+    (l.rest.src ≡ l.initial.rest.src) × (l.rest.at ≡ l.initial.rest.at + entry_length * l.entry-index)
+    × (l.entry-items ≡ entries_at l.entry-index l.initial.rest.src.now l.initial.rest.at ++ drop l.entry-index l.initial.entry-items)

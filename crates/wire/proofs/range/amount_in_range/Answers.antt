@@ -5,8 +5,8 @@ use Rattle.wire.proofs.range.amount_in_range.Goals as goal
 
 pub returns-then-has_amount : goal.returns-then-has_amount
 unfolding amount_in_range
-returns-then-has_amount c = rw (sym c.has_amount.ensures ∙ c.if-has_amount.true) c.is_amount.ensures
+returns-then-has_amount c = rw (sym c.has_amount.ensures ∙ c.if-has_amount.true, ← c.from.ensures) c.is_amount.ensures
 
-pub returns : goal.returns
+pub returns-else-has_amount : goal.returns-else-has_amount
 unfolding amount_in_range
-returns c = rw (sym c.has_amount.ensures ∙ c.if-has_amount.false)
+returns-else-has_amount c = rw (sym c.has_amount.ensures ∙ c.if-has_amount.false)

@@ -1,8 +1,8 @@
 -- By the kind; each side then is the definition.
-use Rattle.std.proofs.Common.{ne_eqb}
-use Rattle.wire.specs.Message.{increment_kind, clear_in_range}
+use Rattle.wire.specs.Message.{clear_in_range}
+use Rattle.wire.specs.KindLaws.{names_clear}
 use Rattle.wire.proofs.range.body_in_range.Goals as goal
 
-pub returns : goal.returns
+pub returns-in-Ok-Clear : goal.returns-in-Ok-Clear
 unfolding clear_in_range
-returns c = rw (ne_eqb _ increment_kind c.if-kind-eq-INCREMENT.false)
+returns-in-Ok-Clear c = rw (names_clear c.args.kind (cc))

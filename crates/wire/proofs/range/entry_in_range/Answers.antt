@@ -9,4 +9,4 @@ pub returns : goal.returns
 unfolding entry_in_range
 returns c =
     let e = c.args.entry in
-    rw (c.from_one.ensures, c.from_one-2.ensures) (entry_tests (leb c.args.low e.card) (nat_lt e.card most_cards) e.p e.c MAX)
+    rw (c.from.ensures, c.from_one.ensures, c.from_one-2.ensures) (entry_tests (leb c.args.low e.card) (nat_lt e.card most_cards) e.p e.c MAX)

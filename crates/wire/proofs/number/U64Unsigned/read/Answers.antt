@@ -1,0 +1,7 @@
+-- The part of the bytes that is converted is as long as the number.
+use Rattle.std.proofs.Common.{◌∙◌}
+use Rattle.wire.specs.NumberLaws.{hyper_converted}
+use Rattle.wire.proofs.number.U64Unsigned.read.Goals as goal
+
+pub returns : goal.returns
+returns c = c.from_be_bytes.ensures ∙ hyper_converted c.args.bytes.now c.args.at c.unwrap.result (rw c.unwrap.ensures at c.try_into.ensures.1).same
