@@ -1,5 +1,6 @@
 pub mod BeginLaws
+pub mod InRun
 pub mod PartOf
+pub mod SizesChecked
 pub mod SizesOf
-pub mod Started
 pub mod StepCodeLaws

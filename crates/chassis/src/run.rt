@@ -1,52 +1,44 @@
 // A run of steps that are lent as bytes.
-ghost use Rattle.std.specs.Prelude.{◌≡◌, ◌*◌, length, replicate};
+ghost use Rattle.std.specs.Prelude.{◌≡◌, ◌*◌, length};
 ghost use Rattle.protocol.specs.Refusals.{number_in};
 ghost use Rattle.chassis_model.specs.Run.{RunOutcome, answer_length, run_bytes_on, step_length, steps_of};
-ghost use Rattle.chassis_model.proofs.Places.{links};
-ghost use Rattle.chassis.specs.Started.{Started};
-ghost use Rattle.chassis.specs.StepCodeLaws.{StepReady, RunDone};
+ghost use Rattle.chassis.specs.SizesChecked.{SizesChecked};
+ghost use Rattle.chassis.specs.StepCodeLaws.{RunDone};
+ghost use Rattle.chassis.specs.InRun.{state_in, Kept};
 
-use crate::{Sizes, begin, stepping, steps};
+use crate::stepping::Chassis;
+use crate::{Sizes, begin, steps};
 use protocol::Refusal;
 
-// How a run begins, whatever form its steps are lent in: where the sizes are right, every replica is fresh. The logs and the answers are told by their lengths.
-// Ruled out: words written where a size is wrong, and cards and counters exchanged (must-fail/started_exchanged).
-pub fn start(
+// The sizes of a run, whatever form its steps are lent in. Words, logs and answers are told by their lengths.
+// Ruled out: cards and counters exchanged (must-fail/started_exchanged).
+pub fn checked_sizes(
     cards: u64,
     counters: u64,
     log_bytes: u64,
     steps: usize,
-    words: &mut [u64],
+    words: usize,
     logs: usize,
     answers: usize,
 ) -> Result<Sizes, Refusal>
-    ensures { Started cards counters log_bytes steps words.old logs answers result words.new }
+    ensures { SizesChecked cards counters log_bytes steps words logs answers result }
 {
-    let lent = words.len();
-    if !begin::sizes_are_right(cards, counters, log_bytes, steps, lent, logs, answers) {
+    if !begin::sizes_are_right(cards, counters, log_bytes, steps, words, logs, answers) {
         return Err(Refusal::BadSizes);
     }
     let sizes = Sizes::new(cards as usize, counters as usize, log_bytes as usize);
-    begin::fresh_all(words, sizes.cards, sizes.counters);
     Ok(sizes)
 }
 
-// The steps, one after the other, from fresh replicas.
-fn run_steps(
-    sizes: Sizes,
-    bytes: &[u8],
-    count: usize,
-    words: &mut [u64],
-    logs: &mut [u8],
-    answers: &mut [u64],
-)
-    requires { StepReady sizes words.old logs.old (replicate links 0) × (length bytes.now ≡ step_length * count) × (length answers.old ≡ count * answer_length) }
-    ensures { RunDone sizes (steps_of bytes.now) words.old logs.old words.new logs.new answers.new }
+// The steps, one after the other.
+fn run_steps(chassis: &mut Chassis, bytes: &[u8], count: usize, answers: &mut [u64])
+    requires { (length bytes.now ≡ step_length * count) × (length answers.old ≡ count * answer_length) }
+    ensures kept { Kept chassis.old chassis.new }
+    ensures done { RunDone chassis.old.sizes (steps_of bytes.now) (state_in chassis.old) (state_in chassis.new) answers.new }
 {
-    let mut places: [u64; stepping::LINKS] = [0; stepping::LINKS];
     for i in 0..count {
         let s = steps::step_from(bytes, steps::STEP_BYTES * i);
-        stepping::answer_step(sizes, s, i, words, logs, answers, &mut places);
+        chassis.answer_step(s, i, answers);
     }
 }
 
@@ -68,15 +60,16 @@ pub fn run(
         return Err(Refusal::BadSizes);
     }
     let count = steps.len() / steps::STEP_BYTES;
-    let sizes = start(
+    let sizes = checked_sizes(
         cards,
         counters,
         log_bytes,
         count,
-        words,
+        words.len(),
         logs.len(),
         answers.len(),
     )?;
-    run_steps(sizes, steps, count, words, logs, answers);
+    let mut chassis = Chassis::fresh(sizes, words, logs);
+    run_steps(&mut chassis, steps, count, answers);
     Ok(())
 }

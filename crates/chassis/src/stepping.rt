@@ -12,9 +12,9 @@ ghost use Rattle.protocol.specs.Refusals.{number_of, number_in};
 ghost use Rattle.replica_model.specs.Told.{cleared_answer};
 ghost use Rattle.chassis_model.proofs.Places.{link_place, links};
 ghost use Rattle.chassis.specs.PartOf.{PartOf};
-ghost use Rattle.chassis.specs.StepCodeLaws.{WordsFit, state_of, HandReady, HandedOver, StepReady, StepDone, appended, StepAnswered, maker_own_checks, link_own_checks};
+ghost use Rattle.chassis.specs.StepCodeLaws.{SizesFit, WordsFit, state_of, one_waits, HandReady, HandedOver, StepReady, StepDone, appended, StepAnswered, maker_own_checks, link_own_checks};
 
-use crate::Sizes;
+use crate::{Sizes, begin};
 use chassis_model::{Action, Making, Step, StepAnswer};
 use layout::words;
 use protocol::Refusal;
@@ -116,32 +116,6 @@ fn append(
     send(making, replica, counter, &mut log[at..]).map_err(step_refusal)
 }
 
-// A message made by a card that is there: its own parts of the words and of the logs are lent to the call.
-fn make(
-    sizes: Sizes,
-    making: Making,
-    card: usize,
-    counter: u64,
-    words: &mut [u64],
-    logs: &mut [u8],
-    places: &mut [u64; LINKS],
-) -> Result<u64, Refusal>
-    requires { StepReady sizes words.old logs.old places.old × (card < sizes.cards) × (counter < sizes.counters) }
-    ensures { StepDone sizes (Action.Make making card counter) true words.old logs.old (step_answer result) words.new logs.new places.new }
-{
-    let own = link(card, card);
-    let at = places[own];
-    let made = append(
-        making,
-        &mut words[sizes.replica(card)],
-        counter,
-        &mut logs[sizes.log(card)],
-        at as usize,
-    )?;
-    places[own] = at + made.length;
-    Ok(made.value)
-}
-
 // N of `sender` in the replica of card `card`.
 pub fn received(sizes: Sizes, words: &[u64], card: usize, sender: usize) -> u64
     requires { WordsFit sizes words.now × (card < sizes.cards) × (sender < sizes.cards) }
@@ -187,31 +161,6 @@ pub fn hand_over(
     }
 }
 
-// A delivery between two cards that are there.
-fn deliver(
-    sizes: Sizes,
-    receiver: usize,
-    sender: usize,
-    words: &mut [u64],
-    logs: &[u8],
-    places: &mut [u64; LINKS],
-) -> Result<u64, Refusal>
-    requires { StepReady sizes words.old logs.now places.old × IsLink sizes.cards receiver sender }
-    ensures { StepDone sizes (Action.Deliver receiver sender) true words.old logs.now (step_answer result) words.new logs.now places.new }
-{
-    let made = received(sizes, words, sender, sender);
-    let had = received(sizes, words, receiver, sender);
-    if made <= had {
-        return Err(Refusal::NothingWaiting);
-    }
-    let which = link(receiver, sender);
-    let at = places[which];
-    let handed = hand_over(sizes, receiver, sender, at, words, logs);
-    places[which] = handed.behind;
-    handed.taken?;
-    Ok(0)
-}
-
 // What a step that makes a message has against itself.
 fn check_maker(sizes: Sizes, card: usize, counter: usize, fits: bool) -> Result<(), Refusal>
     ensures { number_in result ≡ first_failing (maker_own_checks sizes card counter fits) }
@@ -241,47 +190,118 @@ fn check_link(sizes: Sizes, receiver: usize, sender: usize, fits: bool) -> Resul
     Ok(())
 }
 
-// One step, whatever its numbers: the value that it reads, 0 where it reads none.
-fn step(
-    sizes: Sizes,
-    s: Step,
-    words: &mut [u64],
-    logs: &mut [u8],
-    places: &mut [u64; LINKS],
-) -> Result<u64, Refusal>
-    requires { StepReady sizes words.old logs.old places.old }
-    ensures { StepDone sizes (action_of s) (amount_fits s) words.old logs.old (step_answer result) words.new logs.new places.new }
-{
-    let fits = does_amount_fit(s);
-    match action_of(s) {
-        Action::Make(making, card, counter) => {
-            let card = card as usize;
-            check_maker(sizes, card, counter as usize, fits)?;
-            make(sizes, making, card, u64::from(counter), words, logs, places)
-        }
-        Action::Deliver(receiver, sender) => {
-            let receiver = receiver as usize;
-            let sender = sender as usize;
-            check_link(sizes, receiver, sender, fits)?;
-            deliver(sizes, receiver, sender, words, logs, places)
-        }
-        Action::Nothing => Err(Refusal::BadKind),
-    }
+// A run as it stands: the replicas and the logs of a chassis, and the place of each link's next message.
+#[derive(Drop)]
+pub struct Chassis<'a> {
+    pub sizes: Sizes,
+    pub words: &'a mut [u64],
+    pub logs: &'a mut [u8],
+    pub places: [u64; LINKS],
+    pub ghost ready: { ∥ StepReady sizes words.now logs.now places ∥₁ },
 }
 
-// Step i of a run, with its answer in its words.
-pub fn answer_step(
-    sizes: Sizes,
-    s: Step,
-    i: usize,
-    words: &mut [u64],
-    logs: &mut [u8],
-    answers: &mut [u64],
-    places: &mut [u64; LINKS],
-)
-    requires { StepReady sizes words.old logs.old places.old × (i * answer_length + answer_length ≤ length answers.old) }
-    ensures { StepAnswered sizes s i words.old logs.old answers.old words.new logs.new answers.new places.new }
-{
-    let answer = step(sizes, s, words, logs, places).into();
-    lay(answer, i, answers);
+impl<'a> Chassis<'a> {
+    ghost use Rattle.chassis.specs.InRun.{state_in, Kept, Begun};
+
+    // How a run begins: every replica is fresh, whatever the words were, and no link has had a message.
+    pub fn fresh(sizes: Sizes, words: &'a mut [u64], logs: &'a mut [u8]) -> Chassis<'a>
+        requires { SizesFit sizes (length words.old) (length logs.old) }
+        ensures same_words { result.words.ghost_name ≡ words.entry.ghost_name }
+        ensures same_logs { result.logs.ghost_name ≡ logs.entry.ghost_name }
+        ensures begun { Begun sizes logs.old result }
+    {
+        begin::fresh_all(words, sizes.cards, sizes.counters);
+        Chassis {
+            sizes,
+            words,
+            logs,
+            places: [0; LINKS],
+        }
+    }
+
+    // A message made by a card that is there: its own parts of the words and of the logs are lent to the call.
+    fn make(&mut self, making: Making, card: usize, counter: u64) -> Result<u64, Refusal>
+        requires { (card < self.old.sizes.cards) × (counter < self.old.sizes.counters) }
+        ensures kept { Kept self.old self.new }
+        ensures done { StepDone self.old.sizes (Action.Make making card counter) true (state_in self.old) (step_answer result) (state_in self.new) }
+    {
+        let own = link(card, card);
+        let at = self.places[own];
+        let made = append(
+            making,
+            &mut self.words[self.sizes.replica(card)],
+            counter,
+            &mut self.logs[self.sizes.log(card)],
+            at as usize,
+        )?;
+        self.places[own] = at + made.length;
+        Ok(made.value)
+    }
+
+    // Does one wait on this link? What the sender has made says so, and not what stands in its log.
+    fn does_one_wait(&self, receiver: usize, sender: usize) -> bool
+        requires { (receiver < self.now.sizes.cards) × (sender < self.now.sizes.cards) }
+        ensures { result ≡ one_waits self.now.sizes (state_in self.now) receiver sender }
+    {
+        let had = received(self.sizes, self.words, receiver, sender);
+        let made = received(self.sizes, self.words, sender, sender);
+        had < made
+    }
+
+    // A delivery between two cards that are there.
+    fn deliver(&mut self, receiver: usize, sender: usize) -> Result<u64, Refusal>
+        requires { IsLink self.old.sizes.cards receiver sender }
+        ensures kept { Kept self.old self.new }
+        ensures done { StepDone self.old.sizes (Action.Deliver receiver sender) true (state_in self.old) (step_answer result) (state_in self.new) }
+    {
+        if !self.does_one_wait(receiver, sender) {
+            return Err(Refusal::NothingWaiting);
+        }
+        let which = link(receiver, sender);
+        // With a `&` of the field itself it would not be known that the logs stay.
+        let logs: &mut [u8] = self.logs;
+        let handed = hand_over(
+            self.sizes,
+            receiver,
+            sender,
+            self.places[which],
+            self.words,
+            logs,
+        );
+        self.places[which] = handed.behind;
+        handed.taken?;
+        Ok(0)
+    }
+
+    // One step, whatever its numbers: the value that it reads, 0 where it reads none.
+    fn step(&mut self, s: Step) -> Result<u64, Refusal>
+        ensures kept { Kept self.old self.new }
+        ensures done { StepDone self.old.sizes (action_of s) (amount_fits s) (state_in self.old) (step_answer result) (state_in self.new) }
+    {
+        let fits = does_amount_fit(s);
+        match action_of(s) {
+            Action::Make(making, card, counter) => {
+                let card = card as usize;
+                check_maker(self.sizes, card, counter as usize, fits)?;
+                self.make(making, card, u64::from(counter))
+            }
+            Action::Deliver(receiver, sender) => {
+                let receiver = receiver as usize;
+                let sender = sender as usize;
+                check_link(self.sizes, receiver, sender, fits)?;
+                self.deliver(receiver, sender)
+            }
+            Action::Nothing => Err(Refusal::BadKind),
+        }
+    }
+
+    // Step i of a run, with its answer in its words.
+    pub fn answer_step(&mut self, s: Step, i: usize, answers: &mut [u64])
+        requires { i * answer_length + answer_length ≤ length answers.old }
+        ensures kept { Kept self.old self.new }
+        ensures done { StepAnswered self.old.sizes s i (state_in self.old) answers.old (state_in self.new) answers.new }
+    {
+        let answer = self.step(s).into();
+        lay(answer, i, answers);
+    }
 }

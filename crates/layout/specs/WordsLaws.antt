@@ -1,9 +1,14 @@
 -- LAWS. What the functions of words.rt ask of the words (the place that they read lies inside) and what their proofs cite. Beside words.rt only this
 -- file and `RowCheck` know the layout (replica_model/specs/Layout.antt).
-use Rattle.std.specs.Prelude.{◌≡◌, ℕ, suc, ◌+◌, ◌*◌, ◌^◌, ◌<◌, ◌≤◌, Bool, true, false, cond, ◌&&◌, ◌||◌, List, length, set, replicate, ◌≢◌, nat_lt, slice_index, slice_set, refl}
-use Rattle.std.proofs.Common.{sym, ap, ◌∙◌, mul-le-mul, arith, length-set, get_or-set_same, get_or-set_other, set-set, ne_eqb}
+use Rattle.std.specs.Prelude.{◌≡◌, ℕ, suc, ◌+◌, ◌*◌, ◌^◌, ◌<◌, ◌≤◌, Bool, true, false, cond, ◌&&◌, ◌||◌, List, [], ◌∷◌, ◌++◌, length, set, replicate, ◌≢◌, nat_lt, ltb, slice_index, slice_set, refl}
+use Rattle.std.proofs.Common.{sym, ap, ◌∙◌, mul-le-mul, arith, length-set, get_or-set_same, get_or-set_other, set-set, ne_eqb, lt-ltb}
 use Rattle.std.proofs.lemmas.List.{set_comm}
-use Rattle.protocol.specs.Limits.{most_cards, most_counters}
+use Rattle.protocol.specs.Limits.{most_cards, most_counters, bad_replica, bad_counter}
+use Rattle.protocol.specs.Refusals.{number_of}
+use Rattle.protocol.specs.declared.Refusal.{Refusal}
+use Rattle.protocol.specs.Checks.{Check, or_else, checked, first_failing}
+use Rattle.protocol.proofs.RefusalLaws.{refusal_some}
+use Rattle.protocol.proofs.ChecksLaws.{first_refuses, checked_append}
 use Rattle.protocol.proofs.Cases.{and_no_left, and_no_right}
 use Rattle.protocol.proofs.BitLaws.{with_bit, with_bit_again, any_some}
 use Rattle.protocol.proofs.Tables.{put_same, put_other, put_same_row}
@@ -12,7 +17,7 @@ use Rattle.protocol.specs.declared.Entry.{Entry}
 use Rattle.replica_model.specs.Layout.{cards, counters, own_card, head_length, replica_length, at_active, at_C, at_N, at_entry, active_word, C_of, N_of, entry_of, set_three, set_entry, set_active, mark, Fits, fresh_words}
 use Rattle.replica_model.proofs.LayoutLaws.{lawful, cell_below, fits_entry, fits_active, head_active, same_cards, same_counters}
 use Rattle.replica_model.specs.ClaimTerms.{Right}
-use Rattle.replica_model.proofs.RowLaws.{tests, right_after}
+use Rattle.replica_model.proofs.RowLaws.{tests, right_after, right_from}
 use Rattle.replica_model.specs.Calls.{sizes_in_range, replica_fits, right}
 
 -- ---- places inside the words: the head, C[j], N[j], and row q of a right replica of r cards
@@ -177,6 +182,22 @@ fits_wrong b h = rw h
 pub fits_counters : (r k own n : ℕ) → replica_fits r k own n ≡ true → (1 ≤ k) × (k ≤ most_counters)
 unfolding replica_fits sizes_in_range
 fits_counters r k own n h = let f = simp tests at h in omega arith
+
+-- ---- a call on one counter: "1, 3", and what else it asks
+
+abbrev pub counter_checks : List ℕ → ℕ → List Check
+counter_checks b q = or_else (right b) bad_replica ∷ or_else (ltb q (counters b)) bad_counter ∷ []
+
+module _ {A : Type 0} (b : List ℕ) (q : ℕ) (refusal : ℕ → A) (rest : List Check) (result : A) where
+  -- a refusal by these is the call's
+  pub counter_refused : (x : Refusal) → number_of x ≡ first_failing (counter_checks b q) → refusal (number_of x) ≡ checked refusal (counter_checks b q ++ rest) result
+  counter_refused x found =
+      rw found (first_refuses refusal (checked refusal rest result) (counter_checks b q) (λ none. refusal_some x (found ∙ none)))
+      ∙ sym (checked_append refusal (counter_checks b q) rest result)
+
+  -- and else the rest decides
+  pub counter_passed : (r : ℕ) → RowInside b r q → checked refusal rest result ≡ checked refusal (counter_checks b q ++ rest) result
+  counter_passed r h = rw (right_from b h.right, lt-ltb q (counters b) h.counter)
 
 -- ---- a fresh replica
 

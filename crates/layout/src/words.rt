@@ -1,17 +1,19 @@
 // Where each word of a replica stands, and whether the replica and one of its rows are well-formed: the only file of the code that knows the
 // layout (replica_model/specs/Layout.antt). Its functions require what the public calls have tested.
-ghost use Rattle.std.specs.Prelude.{◌≡◌, ◌+◌, ◌*◌, ◌^◌, ◌<◌, ◌≤◌, true, false, length, nat_le, nat_lt};
+ghost use Rattle.std.specs.Prelude.{◌≡◌, ◌+◌, ◌*◌, ◌^◌, ◌<◌, ◌≤◌, true, false, length, nat_le, nat_lt, IfOk};
 ghost use Rattle.protocol.specs.Limits.{most_cards, most_counters};
+ghost use Rattle.protocol.specs.Refusals.{number_in};
+ghost use Rattle.protocol.specs.Checks.{first_failing};
 ghost use Rattle.protocol.specs.Functions.{all_below};
 ghost use Rattle.protocol.specs.Acceptance.{entry_well_formed};
 ghost use Rattle.protocol.specs.Entry.{absent, has_entry};
 ghost use Rattle.replica_model.specs.Layout.{cards, counters, own_card, replica_length, at_entry, active_word, active_of, C_of, N_of, entry_from, entry_of, set_C, set_N, set_three, set_entry, set_active, mark};
 ghost use Rattle.replica_model.specs.Calls.{sizes_in_range, replica_fits, right, in_place, row_well_formed};
 ghost use Rattle.replica_model.specs.ClaimTerms.{Right};
-ghost use Rattle.layout.specs.WordsLaws.{HeadInside, CInside, NInside, RowInside, with_head};
+ghost use Rattle.layout.specs.WordsLaws.{HeadInside, CInside, NInside, RowInside, counter_checks, with_head};
 ghost use Rattle.layout.specs.RowCheck.{Ordered, joined, Checked};
 
-use protocol::Entry;
+use protocol::{Entry, Refusal};
 
 // The words before C: r, k, the own card and the active counters.
 pub const HEAD: usize = 4;
@@ -330,6 +332,26 @@ impl Row {
         let counts = counts_joined(words, self.cards);
         self.is_well_formed_beside(words, counts)
     }
+}
+
+// The row of a counter, if the words are a replica (else 1) and have that counter (else 3). It is compiled into its callers: called, each would count more
+// instructions.
+// Ruled out: a row of counter k (must-fail/counter_k_passes).
+#[inline(always)]
+pub fn row_of(words: &[u64], counter: u64) -> Result<Row, Refusal>
+    ensures checked { number_in result ≡ first_failing (counter_checks words.now counter) }
+    ensures row { IfOk result (λ row. RowInside words.now row.cards row.counter × (row.counter ≡ counter)) }
+{
+    if !is_right(words) {
+        return Err(Refusal::BadReplica);
+    }
+    if counters_of(words) <= counter {
+        return Err(Refusal::BadCounter);
+    }
+    Ok(Row {
+        cards: cards_of(words),
+        counter: counter as usize,
+    })
 }
 
 // Whether every row is well-formed: C and N are joined once.

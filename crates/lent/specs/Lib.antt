@@ -1,3 +1,4 @@
+pub mod ChecksLaws
 pub mod Each
 pub mod Lent
 pub mod PlacesLaws

@@ -10,7 +10,6 @@ use Rattle.std.proofs.Math.ListN.{length}
 use borrow.Author.Tests.{leb-true, eq-eqb, ne_eqb, lt-ltb, le-ltb}
 use Rattle.protocol.specs.Limits.{most_cards}
 use Rattle.protocol.proofs.Cases.{by_test, by_place, by_le, and_yes, and_no_left, and_no_right, not_yes}
-use Rattle.protocol.specs.Functions.{all_below}
 use Rattle.protocol.proofs.AcceptanceLaws.{tests, below_facts, below_from}
 use Rattle.wire.specs.Number.{int_width, hyper_width, int_at, hyper_at}
 use Rattle.wire.specs.Message.{clear_kind, shortest_message, kind_at, sender_at, sequence_at, increment_message, clear_message}
@@ -19,18 +18,17 @@ use Rattle.wire.specs.NumberLaws.{number_at_left}
 use Rattle.wire.specs.Claims.{front_reads}
 use Rattle.wire.specs.RoundTrips.{read_long}
 use Rattle.wire.specs.Told.{unless_0}
-use Rattle.chassis_model.specs.ListParts.{part}
 use Rattle.chassis_model.proofs.ListPartsLaws.{part_length}
 use Rattle.chassis_model.specs.Log.{waiting_part, end_of}
 use Rattle.chassis_model.proofs.LogLaws.{waiting_here, waiting_none, waiting_next}
-use Rattle.chassis_model.specs.Run.{State, state_of, log_of, N_at}
+use Rattle.chassis_model.specs.Run.{State, log_of, N_at}
 use Rattle.chassis_model.proofs.Ends.{ends_within, ends_in}
 use Rattle.chassis_model.proofs.Places.{links, link_place, WaitsAt}
 use Rattle.chassis_model.specs.Pending.{is_numbered, begins_with, log_right}
 use Rattle.chassis_model.proofs.PendingChecked.{Checked}
-use Rattle.chassis.specs.declared.Sizes.{Sizes}
+use Rattle.lent.specs.declared.Replicas.{Replicas}
 use Rattle.lent.specs.Each.{below_fails}
-use Rattle.lent.specs.Lent.{received_in, Lent, numbered_length, Missing, Arrived, NextStop, Marked, Found, AllFound}
+use Rattle.lent.specs.Lent.{lent_log, received, next_place, none_ahead, is_log_right, are_logs_right, numbered_length, Missing, Arrived, NextStop, Marked, Found, AllFound}
 
 -- ---- a length that may be none
 
@@ -137,18 +135,18 @@ module _ (log : List ℕ) (s n at : ℕ) (place : at ≡ end_of n log) where
 
 -- ---- the next stop, a receiver at a time
 
-module _ (sizes : Sizes) (words : List ℕ) (s passed made : ℕ) where
+module _ (replicas : Replicas) (s passed made : ℕ) where
   -- a receiver that has had no more is no stop
-  pub stop_passed : (n stop : ℕ) → received_in sizes words n s ≤ passed → NextStop sizes words s passed made n stop
-      → NextStop sizes words s passed made (n + 1) stop
+  pub stop_passed : (n stop : ℕ) → received replicas n s ≤ passed → NextStop replicas s passed made n stop
+      → NextStop replicas s passed made (n + 1) stop
   stop_passed n stop low h = record {
     above = h.above;
     within = h.within;
     nearest = λ i l p. by_place i n (λ e. absurd (let p' = rw e at p in omega arith)) (λ d. h.nearest i (omega arith) p);
   }
 
-  pub stop_next : (n stop : ℕ) → passed < received_in sizes words n s → NextStop sizes words s passed made n stop
-      → NextStop sizes words s passed made (n + 1) (min stop (received_in sizes words n s))
+  pub stop_next : (n stop : ℕ) → passed < received replicas n s → NextStop replicas s passed made n stop
+      → NextStop replicas s passed made (n + 1) (min stop (received replicas n s))
   stop_next n stop high h =
       let below = h.above in
       let within = h.within in
@@ -160,10 +158,10 @@ module _ (sizes : Sizes) (words : List ℕ) (s passed made : ℕ) where
 
 -- ---- the places, a receiver at a time
 
-module _ (sizes : Sizes) (words : List ℕ) (s number at : ℕ) (before : List ℕ) where
+module _ (replicas : Replicas) (s number at : ℕ) (before : List ℕ) where
   -- whether the place of receiver i and sender u is marked, where n receivers are passed
   abbrev marks : ℕ → ℕ → ℕ → Bool
-  marks n i u = ltb i n && eqb u s && eqb (received_in sizes words i s) number
+  marks n i u = ltb i n && eqb u s && eqb (received replicas i s) number
 
   marks_same : (n i u : ℕ) → (i ≡ n → u ≡ s → ⊥) → marks n i u ≡ marks (n + 1) i u
   marks_same n i u d =
@@ -173,18 +171,18 @@ module _ (sizes : Sizes) (words : List ℕ) (s number at : ℕ) (before : List �
       (λ l. rw (lt-ltb i n l, lt-ltb i (n + 1) (omega arith))))
       (λ f. simp (ne_eqb u s f, and-false))
 
-  pub mark_passed : (n : ℕ) (places : List ℕ) → (received_in sizes words n s ≡ number → ⊥) → Marked sizes words s number at n before places
-      → Marked sizes words s number at (n + 1) before places
+  pub mark_passed : (n : ℕ) (places : List ℕ) → (received replicas n s ≡ number → ⊥) → Marked replicas s number at n before places
+      → Marked replicas s number at (n + 1) before places
   mark_passed n places other h = record {
     size = h.size;
     place = λ i u hi hu.
         h.place i u hi hu
         ∙ ap (λ (b : Bool). cond b at (get_or before (link_place i u) 0))
-        (by_place i n (λ e. rw e (simp (ne_eqb (received_in sizes words n s) number other, and-false))) (λ d. marks_same n i u (λ x y. d x)));
+        (by_place i n (λ e. rw e (simp (ne_eqb (received replicas n s) number other, and-false))) (λ d. marks_same n i u (λ x y. d x)));
   }
 
-  pub mark_next : (n : ℕ) (places : List ℕ) → n < most_cards → s < most_cards → link_place n s < length places → received_in sizes words n s ≡ number
-      → Marked sizes words s number at n before places → Marked sizes words s number at (n + 1) before (set places (link_place n s) at)
+  pub mark_next : (n : ℕ) (places : List ℕ) → n < most_cards → s < most_cards → link_place n s < length places → received replicas n s ≡ number
+      → Marked replicas s number at n before places → Marked replicas s number at (n + 1) before (set places (link_place n s) at)
   mark_next n places few hs inside same h = record {
     size = length-set places (link_place n s) at ∙ h.size;
     place = λ i u hi hu.
@@ -194,7 +192,7 @@ module _ (sizes : Sizes) (words : List ℕ) (s number at : ℕ) (before : List �
         let es : u ≡ s = omega arith in
         rw (ei, es)
         (get_or-set_same places (link_place n s) at 0 inside
-        ∙ rw (lt-ltb n (n + 1) (omega arith), eq-eqb s s refl, eq-eqb (received_in sizes words n s) number same)))
+        ∙ rw (lt-ltb n (n + 1) (omega arith), eq-eqb s s refl, eq-eqb (received replicas n s) number same)))
         (λ d.
         get_or-set_other places (link_place n s) (link_place i u) at 0 d ∙ h.place i u hi hu
         ∙ ap (λ (b : Bool). cond b at (get_or before (link_place i u) 0)) (marks_same n i u (λ x y. d (omega arith))));
@@ -203,105 +201,97 @@ module _ (sizes : Sizes) (words : List ℕ) (s number at : ℕ) (before : List �
 -- ---- the places of a sender's links, as the walk along its log goes on
 
 -- the first n messages of card s end at `at`; they are the card's of their numbers, and the places of all receivers that have had no more are found
-pub record Finding (sizes : Sizes) (words logs : List ℕ) (s : ℕ) (before : List ℕ) (n at : ℕ) (places : List ℕ) : Type 0 where
-  pub within : n ≤ received_in sizes words s s
-  pub end : at ≡ end_of n (part sizes.log_bytes logs s)
-  pub numbered : (j : ℕ) → j < n → is_numbered s (suc j) (waiting_part (suc j) (part sizes.log_bytes logs s)) ≡ true
+pub record Finding (replicas : Replicas) (log : List ℕ) (s : ℕ) (before : List ℕ) (n at : ℕ) (places : List ℕ) : Type 0 where
+  pub within : n ≤ received replicas s s
+  pub end : at ≡ end_of n log
+  pub numbered : (j : ℕ) → j < n → is_numbered s (suc j) (waiting_part (suc j) log) ≡ true
   pub size : length places ≡ length before
-  pub here : (i : ℕ) → i < sizes.cards → received_in sizes words i s ≤ n
-      → get_or places (link_place i s) 0 ≡ end_of (received_in sizes words i s) (part sizes.log_bytes logs s)
-  pub others : (i u : ℕ) → i < sizes.cards → u < sizes.cards → (u ≡ s → ⊥) → get_or places (link_place i u) 0 ≡ get_or before (link_place i u) 0
+  pub here : (i : ℕ) → i < replicas.sizes.cards → received replicas i s ≤ n
+      → get_or places (link_place i s) 0 ≡ end_of (received replicas i s) log
+  pub others : (i u : ℕ) → i < replicas.sizes.cards → u < replicas.sizes.cards → (u ≡ s → ⊥) → get_or places (link_place i u) 0 ≡ get_or before (link_place i u) 0
 
--- whether no card has had more of card s's messages than it has made
-abbrev pub none_ahead : Sizes → List ℕ → ℕ → Bool
-none_ahead sizes words s = all_below sizes.cards (λ i. leb (received_in sizes words i s) (received_in sizes words s s))
-
-module _ (sizes : Sizes) (words logs : List ℕ) (s : ℕ) (lent : Lent sizes words logs) (below : s < sizes.cards) where
-  abbrev log : List ℕ
-  log = part sizes.log_bytes logs s
-
-  few : sizes.cards ≤ most_cards
-  few = lent.words_fit.few_cards
+module _ (replicas : Replicas) (log : List ℕ) (s : ℕ) (below : s < replicas.sizes.cards) where
+  few : replicas.sizes.cards ≤ most_cards
+  few = replicas.fit.few_cards
 
   -- what a mark did
-  module _ (number at : ℕ) (places places' : List ℕ) (m : Marked sizes words s number at sizes.cards places places') where
-    marked_here : (i : ℕ) → i < sizes.cards → received_in sizes words i s ≡ number → get_or places' (link_place i s) 0 ≡ at
+  module _ (number at : ℕ) (places places' : List ℕ) (m : Marked replicas s number at replicas.sizes.cards places places') where
+    marked_here : (i : ℕ) → i < replicas.sizes.cards → received replicas i s ≡ number → get_or places' (link_place i s) 0 ≡ at
     marked_here i hi e =
         m.place i s (omega (arith, few)) (omega (arith, few))
-        ∙ rw (lt-ltb i sizes.cards hi, eq-eqb s s refl, eq-eqb (received_in sizes words i s) number e)
+        ∙ rw (lt-ltb i replicas.sizes.cards hi, eq-eqb s s refl, eq-eqb (received replicas i s) number e)
 
-    marked_there : (i : ℕ) → i < sizes.cards → (received_in sizes words i s ≡ number → ⊥)
+    marked_there : (i : ℕ) → i < replicas.sizes.cards → (received replicas i s ≡ number → ⊥)
         → get_or places' (link_place i s) 0 ≡ get_or places (link_place i s) 0
-    marked_there i hi d = m.place i s (omega (arith, few)) (omega (arith, few)) ∙ simp (ne_eqb (received_in sizes words i s) number d, and-false)
+    marked_there i hi d = m.place i s (omega (arith, few)) (omega (arith, few)) ∙ simp (ne_eqb (received replicas i s) number d, and-false)
 
-    marked_others : (i u : ℕ) → i < sizes.cards → u < sizes.cards → (u ≡ s → ⊥) → get_or places' (link_place i u) 0 ≡ get_or places (link_place i u) 0
+    marked_others : (i u : ℕ) → i < replicas.sizes.cards → u < replicas.sizes.cards → (u ≡ s → ⊥) → get_or places' (link_place i u) 0 ≡ get_or places (link_place i u) 0
     marked_others i u hi hu d = m.place i u (omega (arith, few)) (omega (arith, few)) ∙ simp (ne_eqb u s d, and-false)
 
-  pub finding_begins : (before places : List ℕ) → Marked sizes words s 0 0 sizes.cards before places → Finding sizes words logs s places 0 0 places
+  pub finding_begins : (before places : List ℕ) → Marked replicas s 0 0 replicas.sizes.cards before places → Finding replicas log s places 0 0 places
   unfolding end_of
   finding_begins before places m = record {
     within = omega arith;
     end = refl;
     numbered = λ j l. absurd (omega arith);
     size = refl;
-    here = λ i hi l. let none : received_in sizes words i s ≡ 0 = omega arith in marked_here 0 0 before places m i hi none ∙ rw none;
+    here = λ i hi l. let none : received replicas i s ≡ 0 = omega arith in marked_here 0 0 before places m i hi none ∙ rw none;
     others = λ i u hi hu d. refl;
   }
 
-  module _ (before : List ℕ) (n at : ℕ) (places : List ℕ) (h : Finding sizes words logs s before n at places) where
-    pub finding_next : (stop at' : ℕ) (places' : List ℕ) → NextStop sizes words s n (received_in sizes words s s) sizes.cards stop
-        → Arrived log s n stop at' → Marked sizes words s stop at' sizes.cards places places' → Finding sizes words logs s before stop at' places'
+  module _ (before : List ℕ) (n at : ℕ) (places : List ℕ) (h : Finding replicas log s before n at places) where
+    pub finding_next : (stop at' : ℕ) (places' : List ℕ) → NextStop replicas s n (received replicas s s) replicas.sizes.cards stop
+        → Arrived log s n stop at' → Marked replicas s stop at' replicas.sizes.cards places places' → Finding replicas log s before stop at' places'
     finding_next stop at' places' next walked m = record {
       within = next.within;
       end = walked.place;
       numbered = λ j l. by_le n j (λ low. walked.there j low l) (λ low. h.numbered j low);
       size = m.size ∙ h.size;
       here = λ i hi l.
-          by_place (received_in sizes words i s) stop
+          by_place (received replicas i s) stop
           (λ e. marked_here stop at' places places' m i hi e ∙ walked.place ∙ rw e)
-          (λ d. by_le (received_in sizes words i s) n
+          (λ d. by_le (received replicas i s) n
           (λ low. marked_there stop at' places places' m i hi d ∙ h.here i hi low)
           (λ high. let far = next.nearest i hi high in absurd (omega arith)));
       others = λ i u hi hu d. marked_others stop at' places places' m i u hi hu d ∙ h.others i u hi hu d;
     }
 
     -- all messages are passed
-    pub found_right : received_in sizes words s s ≤ n → none_ahead sizes words s ≡ true → Found sizes words logs s before true places
-    unfolding log_right begins_with
+    pub found_right : received replicas s s ≤ n → none_ahead replicas s ≡ true → Found replicas log s before true places
+    unfolding begins_with
     found_right all none =
-        let same : n ≡ received_in sizes words s s = omega (arith, h.within) in
+        let same : n ≡ received replicas s s = omega (arith, h.within) in
         record {
-          right = sym (and_yes _ _ (below_from (received_in sizes words s s) _ (λ j l. h.numbered j (omega arith))) none);
+          right = sym (and_yes _ _ (below_from (received replicas s s) _ (λ j l. h.numbered j (omega arith))) none);
           size = h.size;
           here = λ _ i hi.
-              let within : received_in sizes words i s ≤ received_in sizes words s s = leb-true _ _ (below_facts sizes.cards _ none i hi) in
+              let within : received replicas i s ≤ received replicas s s = leb-true _ _ (below_facts replicas.sizes.cards _ none i hi) in
               h.here i hi (omega arith);
           others = h.others;
         }
 
     -- one of them is not there
-    pub found_missing : (stop : ℕ) → stop ≤ received_in sizes words s s → Missing log s stop → Found sizes words logs s before false places
-    unfolding log_right begins_with
+    pub found_missing : (stop : ℕ) → stop ≤ received replicas s s → Missing log s stop → Found replicas log s before false places
+    unfolding begins_with
     found_missing stop within m = record {
-      right = sym (and_no_left _ _ (below_fails (received_in sizes words s s) _ m.behind (let l = m.below in omega arith) m.other));
+      right = sym (and_no_left _ _ (below_fails (received replicas s s) _ m.behind (let l = m.below in omega arith) m.other));
       size = h.size;
       here = λ e. absurd (false≢true e);
       others = h.others;
     }
 
   -- a card is ahead, and nothing was marked
-  pub found_ahead : (places : List ℕ) → none_ahead sizes words s ≡ false → Found sizes words logs s places false places
-  unfolding log_right
+  pub found_ahead : (places : List ℕ) → none_ahead replicas s ≡ false → Found replicas log s places false places
   found_ahead places ahead = record {
-    right = sym (and_no_right (begins_with s (received_in sizes words s s) log) _ ahead);
+    right = sym (and_no_right (begins_with s (received replicas s s) log) _ ahead);
     size = refl;
     here = λ e. absurd (false≢true e);
     others = λ i u hi hu d. refl;
   }
 
   -- what was marked before the walk
-  pub found_since : (before places : List ℕ) → Marked sizes words s 0 0 sizes.cards before places
-      → (ok : Bool) (places' : List ℕ) → Found sizes words logs s places ok places' → Found sizes words logs s before ok places'
+  pub found_since : (before places : List ℕ) → Marked replicas s 0 0 replicas.sizes.cards before places
+      → (ok : Bool) (places' : List ℕ) → Found replicas log s places ok places' → Found replicas log s before ok places'
   found_since before places m ok places' f = record {
     right = f.right;
     size = f.size ∙ m.size;
@@ -312,19 +302,30 @@ module _ (sizes : Sizes) (words logs : List ℕ) (s : ℕ) (lent : Lent sizes wo
 -- ---- a sender at a time
 
 -- of the first n senders, whose logs are right
-pub record FoundBelow (sizes : Sizes) (words logs : List ℕ) (n : ℕ) (places : List ℕ) : Type 0 where
-  pub right : (s : ℕ) → s < n → log_right sizes.cards sizes.counters sizes.log_bytes (state_of words logs) s ≡ true
+pub record FoundBelow (replicas : Replicas) (logs : List ℕ) (n : ℕ) (places : List ℕ) : Type 0 where
+  pub right : (s : ℕ) → s < n → is_log_right replicas (lent_log replicas logs s) s ≡ true
   pub size : length places ≡ links
-  pub place : (i s : ℕ) → i < sizes.cards → s < n → get_or places (link_place i s) 0 ≡ ends_in sizes.cards sizes.counters sizes.log_bytes (state_of words logs) i s
+  pub place : (i s : ℕ) → i < replicas.sizes.cards → s < n → get_or places (link_place i s) 0 ≡ next_place replicas logs i s
 
-module _ (sizes : Sizes) (words logs : List ℕ) where
-  -- one log is not right
-  pub found_wrong : (n : ℕ) (places places' : List ℕ) → n < sizes.cards → Found sizes words logs n places false places' → AllFound sizes words logs false places'
-  found_wrong n places places' below f = record { right = sym (below_fails sizes.cards _ n below (sym f.right)); places = λ e. absurd (false≢true e) }
+module _ (replicas : Replicas) (logs : List ℕ) where
+  module _ (n : ℕ) (places places' : List ℕ) (below : n < replicas.sizes.cards) where
+    -- one log is not right
+    pub found_wrong : Found replicas (lent_log replicas logs n) n places false places' → AllFound replicas logs false places'
+    unfolding are_logs_right log_right
+    found_wrong f = record { right = sym (below_fails replicas.sizes.cards _ n below (sym f.right)); places = λ e. absurd (false≢true e) }
 
-  pub found_all : (n : ℕ) → sizes.cards ≤ n → (places : List ℕ) → FoundBelow sizes words logs n places → AllFound sizes words logs true places
+    -- one more that is
+    pub found_next : Found replicas (lent_log replicas logs n) n places true places' → FoundBelow replicas logs n places → FoundBelow replicas logs (n + 1) places'
+    found_next f h = record {
+      right = λ s l. by_place s n (λ e. rw e (sym f.right)) (λ d. h.right s (omega arith));
+      size = f.size ∙ h.size;
+      place = λ i s hi l. by_place s n (λ e. rw e (f.here refl i hi)) (λ d. f.others i s hi (omega arith) d ∙ h.place i s hi (omega arith));
+    }
+
+  pub found_all : (n : ℕ) → replicas.sizes.cards ≤ n → (places : List ℕ) → FoundBelow replicas logs n places → AllFound replicas logs true places
+  unfolding are_logs_right log_right
   found_all n end places h = record {
-    right = sym (below_from sizes.cards _ (λ s hs. h.right s (omega arith)));
+    right = sym (below_from replicas.sizes.cards _ (λ s hs. h.right s (omega arith)));
     places = λ _. record { size = h.size; place = λ i s hi hs. h.place i s hi (omega arith) };
   }
 

@@ -1,13 +1,12 @@
 // Number 15's test. Each log is walked once; on the way the place of each link's next message is found.
-ghost use Rattle.std.specs.Prelude.{◌≡◌, IfSome, ◌+◌, ◌≤◌, ◌<◌, length, drop, leb};
+ghost use Rattle.std.specs.Prelude.{◌≡◌, IfSome, ◌+◌, ◌*◌, ◌≤◌, ◌<◌, length, drop, leb};
 ghost use Rattle.wire.specs.Told.{unless_0};
 ghost use Rattle.protocol.specs.Functions.{all_below};
 ghost use Rattle.chassis_model.specs.Log.{end_of};
-ghost use Rattle.chassis_model.proofs.Places.{links};
-ghost use Rattle.chassis.specs.StepCodeLaws.{WordsFit};
-ghost use Rattle.lent.specs.Lent.{Lent, received_in, numbered_length, Walked, NextStop, Marked, Found, AllFound};
+ghost use Rattle.lent.specs.Lent.{received, numbered_length, Walked, NextStop, Marked, Found, AllFound};
 
-use chassis::{Sizes, stepping};
+use crate::Replicas;
+use chassis::stepping;
 use wire::decode;
 use wire::reader::Reader;
 
@@ -39,99 +38,82 @@ fn walk(log: &[u8], sender: usize, from: u64, to: u64, at: usize) -> Option<usiz
     Some(place)
 }
 
-// Has no card had more of the sender's messages than it has made?
-fn is_none_ahead(sizes: Sizes, words: &[u64], sender: usize, made: u64) -> bool
-    requires { WordsFit sizes words.now × (sender < sizes.cards) }
-    ensures { result ≡ all_below sizes.cards (λ i. leb (received_in sizes words.now i sender) made) }
-{
-    for receiver in 0..sizes.cards {
-        if made < stepping::received(sizes, words, receiver, sender) {
+impl Replicas<'_> {
+    // Has no card had more of the sender's messages than it has made?
+    fn is_none_ahead(&self, sender: usize, made: u64) -> bool
+        requires { sender < self.now.sizes.cards }
+        ensures { result ≡ all_below self.now.sizes.cards (λ i. leb (received self.now i sender) made) }
+    {
+        for receiver in 0..self.sizes.cards {
+            if made < self.received(receiver, sender) {
+                return false;
+            }
+        }
+        true
+    }
+
+    // The smallest number above `passed` of the sender's messages that some card has had, or `made`.
+    fn next_stop(&self, sender: usize, passed: u64, made: u64) -> u64
+        requires { (sender < self.now.sizes.cards) × (passed < made) }
+        ensures { NextStop self.now sender passed made self.now.sizes.cards result }
+    {
+        let mut stop = made;
+        for receiver in 0..self.sizes.cards {
+            let had = self.received(receiver, sender);
+            if passed < had {
+                stop = stop.min(had);
+            }
+        }
+        stop
+    }
+
+    // The next message of every card that has had `number` of the sender's messages stands at `at`.
+    fn mark(&self, sender: usize, number: u64, at: u64, places: &mut [u64; stepping::LINKS])
+        requires { sender < self.now.sizes.cards }
+        ensures { Marked self.now sender number at self.now.sizes.cards places.old places.new }
+    {
+        for receiver in 0..self.sizes.cards {
+            if self.received(receiver, sender) == number {
+                places[stepping::link(receiver, sender)] = at;
+            }
+        }
+    }
+
+    // The sender's log: does it begin with the messages that it has made, and has no card had more? The places of its links are found.
+    fn find_places(&self, log: &[u8], sender: usize, places: &mut [u64; stepping::LINKS]) -> bool
+        requires { sender < self.now.sizes.cards }
+        ensures { Found self.now log.now sender places.old result places.new }
+    {
+        let made = self.received(sender, sender);
+        if !self.is_none_ahead(sender, made) {
             return false;
         }
-    }
-    true
-}
-
-// The smallest number above `passed` of the sender's messages that some card has had, or `made`.
-fn next_stop(sizes: Sizes, words: &[u64], sender: usize, passed: u64, made: u64) -> u64
-    requires { WordsFit sizes words.now × (sender < sizes.cards) × (passed < made) }
-    ensures { NextStop sizes words.now sender passed made sizes.cards result }
-{
-    let mut stop = made;
-    for receiver in 0..sizes.cards {
-        let had = stepping::received(sizes, words, receiver, sender);
-        if passed < had {
-            stop = stop.min(had);
+        self.mark(sender, 0, 0, places);
+        let mut n: u64 = 0;
+        let mut at: usize = 0;
+        while n < made {
+            let stop = self.next_stop(sender, n, made);
+            let Some(place) = walk(log, sender, n, stop, at) else {
+                return false;
+            };
+            self.mark(sender, stop, place as u64, places);
+            n = stop;
+            at = place;
         }
+        true
     }
-    stop
-}
 
-// The next message of every card that has had `number` of the sender's messages stands at `at`.
-fn mark(
-    sizes: Sizes,
-    words: &[u64],
-    sender: usize,
-    number: u64,
-    at: u64,
-    places: &mut [u64; stepping::LINKS],
-)
-    requires { WordsFit sizes words.now × (sender < sizes.cards) × (length places.old ≡ links) }
-    ensures { Marked sizes words.now sender number at sizes.cards places.old places.new }
-{
-    for receiver in 0..sizes.cards {
-        if stepping::received(sizes, words, receiver, sender) == number {
-            places[stepping::link(receiver, sender)] = at;
+    // Number 15's test, and every place.
+    pub fn find_all_places(&self, logs: &[u8], places: &mut [u64; stepping::LINKS]) -> bool
+        requires { length logs.now ≡ self.now.sizes.cards * self.now.sizes.log_bytes }
+        ensures { AllFound self.now logs.now result places.new }
+    {
+        for sender in 0..self.sizes.cards {
+            let log = &logs[self.sizes.log(sender)];
+            if !self.find_places(log, sender, places) {
+                return false;
+            }
         }
+        true
     }
-}
-
-// The sender's log: does it begin with the messages that it has made, and has no card had more? The places of its links are found.
-fn find_places(
-    sizes: Sizes,
-    words: &[u64],
-    logs: &[u8],
-    sender: usize,
-    places: &mut [u64; stepping::LINKS],
-) -> bool
-    requires { Lent sizes words.now logs.now × (sender < sizes.cards) × (length places.old ≡ links) }
-    ensures { Found sizes words.now logs.now sender places.old result places.new }
-{
-    let made = stepping::received(sizes, words, sender, sender);
-    if !is_none_ahead(sizes, words, sender, made) {
-        return false;
-    }
-    let start = sender * sizes.log_bytes;
-    let log = &logs[start..start + sizes.log_bytes];
-    mark(sizes, words, sender, 0, 0, places);
-    let mut n: u64 = 0;
-    let mut at: usize = 0;
-    while n < made {
-        let stop = next_stop(sizes, words, sender, n, made);
-        let Some(place) = walk(log, sender, n, stop, at) else {
-            return false;
-        };
-        mark(sizes, words, sender, stop, place as u64, places);
-        n = stop;
-        at = place;
-    }
-    true
-}
-
-// Number 15's test, and every place.
-pub fn find_all_places(
-    sizes: Sizes,
-    words: &[u64],
-    logs: &[u8],
-    places: &mut [u64; stepping::LINKS],
-) -> bool
-    requires { Lent sizes words.now logs.now × (length places.old ≡ links) }
-    ensures { AllFound sizes words.now logs.now result places.new }
-{
-    for sender in 0..sizes.cards {
-        if !find_places(sizes, words, logs, sender, places) {
-            return false;
-        }
-    }
-    true
 }

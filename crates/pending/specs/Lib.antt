@@ -1,3 +1,4 @@
 pub mod DeliverLaws
+pub mod Ready
 pub mod Rounds
 pub mod RoundsLaws

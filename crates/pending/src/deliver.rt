@@ -3,9 +3,9 @@ ghost use Rattle.std.specs.Prelude.{◌≡◌};
 ghost use Rattle.chassis_model.specs.Told.{delivered_answer};
 ghost use Rattle.chassis_model.specs.Pending.{DeliverOutcome, deliver_pending_on};
 
-use crate::rounds;
+use crate::rounds::Pump;
 use chassis::{Sizes, begin, stepping};
-use lent::{checks, places};
+use lent::Replicas;
 use protocol::Refusal;
 
 // Makes at most `most` of the deliveries that wait, in rounds, and answers how many it made.
@@ -23,15 +23,22 @@ pub fn deliver_pending(
         return Err(Refusal::BadSizes);
     }
     let sizes = Sizes::new(cards as usize, counters as usize, log_bytes as usize);
-    if !checks::are_in_place(sizes, words) {
+    let replicas = Replicas { sizes, words };
+    if !replicas.are_in_place() {
         return Err(Refusal::BadReplica);
     }
-    if !checks::are_rows_well_formed(sizes, words) {
+    if !replicas.are_rows_well_formed() {
         return Err(Refusal::BadRow);
     }
     let mut places: [u64; stepping::LINKS] = [0; stepping::LINKS];
-    if !places::find_all_places(sizes, words, logs, &mut places) {
+    if !replicas.find_all_places(logs, &mut places) {
         return Err(Refusal::BadLog);
     }
-    Ok(rounds::pump(sizes, most, words, logs, &mut places))
+    let mut pump = Pump {
+        sizes,
+        words,
+        logs,
+        places: &mut places,
+    };
+    Ok(pump.run(most))
 }

@@ -1,21 +1,19 @@
 // Rounds over the links that are open: one waits on them, and they are not passed over. What is done for each delivery is one take; a link on which nothing
 // waits any more, or whose message take declines, is left out of the rounds that follow.
-ghost use Rattle.std.specs.Prelude.{◌≡◌, ◌+◌, ◌≤◌, ◌<◌, ltb};
+ghost use Rattle.std.specs.Prelude.{◌≡◌, ◌+◌, ◌≤◌, ◌<◌};
 ghost use Rattle.chassis_model.proofs.Places.{links};
-ghost use Rattle.chassis.specs.StepCodeLaws.{WordsFit};
-ghost use Rattle.lent.specs.Lent.{received_in, PumpReady};
-ghost use Rattle.pending.specs.Rounds.{pushed, Listed, ListedTo, TurnReady, TurnDone, RoundReady, RoundDone, PumpDone};
+ghost use Rattle.pending.specs.Ready.{PumpReady};
 
 use chassis::{Sizes, stepping};
 
-// Does one wait on this link?
-fn does_one_wait(sizes: Sizes, words: &[u64], receiver: usize, sender: usize) -> bool
-    requires { WordsFit sizes words.now × (receiver < sizes.cards) × (sender < sizes.cards) }
-    ensures { result ≡ ltb (received_in sizes words.now receiver sender) (received_in sizes words.now sender sender) }
-{
-    let had = stepping::received(sizes, words, receiver, sender);
-    let made = stepping::received(sizes, words, sender, sender);
-    had < made
+// What the rounds go over: the words and logs of a chassis that passes the checks, and the place of each link's next message.
+#[derive(Drop)]
+pub(crate) struct Pump<'a> {
+    pub(crate) sizes: Sizes,
+    pub(crate) words: &'a mut [u64],
+    pub(crate) logs: &'a [u8],
+    pub(crate) places: &'a mut [u64; stepping::LINKS],
+    pub(crate) ghost ready: { PumpReady sizes words.now logs.now places.now },
 }
 
 // The links that are open, by their numbers: the first `count`, with room for every link.
@@ -26,6 +24,8 @@ struct OpenLinks {
 }
 
 impl OpenLinks {
+    ghost use Rattle.pending.specs.Rounds.{pump_state, pushed, Listed, ListedTo};
+
     // Puts a link behind the others.
     fn push(&mut self, which: usize)
         requires { self.old.count < links }
@@ -36,29 +36,28 @@ impl OpenLinks {
     }
 
     // Behind the others, the links to a receiver on which one waits, senders rising. None waits on a card's link to itself.
-    fn push_waiting(&mut self, sizes: Sizes, words: &[u64], receiver: usize)
-        requires { WordsFit sizes words.now × (receiver < sizes.cards) × (self.old.count + sizes.cards ≤ links) }
-        ensures { ListedTo sizes words.now receiver sizes.cards self.old self.new }
+    fn push_waiting(&mut self, pump: &Pump, receiver: usize)
+        requires { (receiver < pump.now.sizes.cards) × (self.old.count + pump.now.sizes.cards ≤ links) }
+        ensures { ListedTo pump.now.sizes (pump_state pump.now) receiver pump.now.sizes.cards self.old self.new }
     {
-        for sender in 0..sizes.cards {
+        for sender in 0..pump.sizes.cards {
             let which = stepping::link(receiver, sender);
-            if does_one_wait(sizes, words, receiver, sender) {
+            if pump.does_one_wait(receiver, sender) {
                 self.push(which);
             }
         }
     }
 
     // The links on which one waits, receivers rising.
-    fn waiting(sizes: Sizes, words: &[u64]) -> OpenLinks
-        requires { WordsFit sizes words.now }
-        ensures { Listed sizes words.now sizes.cards result }
+    fn waiting(pump: &Pump) -> OpenLinks
+        ensures { Listed pump.now.sizes (pump_state pump.now) pump.now.sizes.cards result }
     {
         let mut list = OpenLinks {
             numbers: [0; stepping::LINKS],
             count: 0,
         };
-        for receiver in 0..sizes.cards {
-            list.push_waiting(sizes, words, receiver);
+        for receiver in 0..pump.sizes.cards {
+            list.push_waiting(pump, receiver);
         }
         list
     }
@@ -72,80 +71,83 @@ enum Turn {
     Done,
 }
 
-// Takes the turn of a link on which one waits.
-fn take_turn(
-    sizes: Sizes,
-    which: usize,
-    words: &mut [u64],
-    logs: &[u8],
-    places: &mut [u64; stepping::LINKS],
-) -> Turn
-    requires { TurnReady sizes which words.old logs.now places.old }
-    ensures { TurnDone sizes which words.old logs.now result words.new places.new }
-{
-    let receiver = which / stepping::MOST_CARDS;
-    let sender = which % stepping::MOST_CARDS;
-    let handed = stepping::hand_over(sizes, receiver, sender, places[which], words, logs);
-    if handed.taken.is_err() {
-        return Turn::Declined;
-    }
-    places[which] = handed.behind;
-    if does_one_wait(sizes, words, receiver, sender) {
-        Turn::Open
-    } else {
-        Turn::Done
-    }
-}
+impl Pump<'_> {
+    ghost use Rattle.pending.specs.Rounds.{pump_state, one_waits, Kept, TurnReady, TurnDone, RoundReady, RoundDone, PumpDone};
 
-// A round over the list, with `before` deliveries made before it. Returns how many are made then. The links that are still open stay in the list: each is put
-// at its front again, no further on than it was read.
-fn round(
-    sizes: Sizes,
-    most: u64,
-    before: u64,
-    words: &mut [u64],
-    logs: &[u8],
-    places: &mut [u64; stepping::LINKS],
-    list: &mut OpenLinks,
-) -> u64
-    requires { RoundReady sizes most words.old logs.now places.old list.old }
-    ensures { RoundDone sizes most before words.old logs.now list.old result words.new places.new list.new }
-{
-    let mut made = before;
-    let count = list.count;
-    list.count = 0;
-    for next in 0..count {
-        if most <= made {
-            break;
+    // Does one wait on this link?
+    fn does_one_wait(&self, receiver: usize, sender: usize) -> bool
+        requires { (receiver < self.now.sizes.cards) × (sender < self.now.sizes.cards) }
+        ensures { result ≡ one_waits self.now.sizes (pump_state self.now) receiver sender }
+    {
+        let had = stepping::received(self.sizes, self.words, receiver, sender);
+        let made = stepping::received(self.sizes, self.words, sender, sender);
+        had < made
+    }
+
+    // Takes the turn of a link on which one waits.
+    fn take_turn(&mut self, which: usize) -> Turn
+        requires { TurnReady self.old.sizes which (pump_state self.old) }
+        ensures kept { Kept self.old self.new }
+        ensures done { TurnDone self.old.sizes which (pump_state self.old) result (pump_state self.new) }
+    {
+        let receiver = which / stepping::MOST_CARDS;
+        let sender = which % stepping::MOST_CARDS;
+        let handed = stepping::hand_over(
+            self.sizes,
+            receiver,
+            sender,
+            self.places[which],
+            self.words,
+            self.logs,
+        );
+        if handed.taken.is_err() {
+            return Turn::Declined;
         }
-        let which = list.numbers[next];
-        match take_turn(sizes, which, words, logs, places) {
-            Turn::Declined => {}
-            Turn::Open => {
-                made += 1;
-                list.push(which);
+        self.places[which] = handed.behind;
+        if self.does_one_wait(receiver, sender) {
+            Turn::Open
+        } else {
+            Turn::Done
+        }
+    }
+
+    // A round over the list, with `before` deliveries made before it. Returns how many are made then. The links that are still open stay in the list: each is
+    // put at its front again, no further on than it was read.
+    fn round(&mut self, most: u64, before: u64, list: &mut OpenLinks) -> u64
+        requires { RoundReady self.old.sizes most (pump_state self.old) list.old }
+        ensures kept { Kept self.old self.new }
+        ensures done { RoundDone self.old.sizes most before (pump_state self.old) list.old result (pump_state self.new) list.new }
+    {
+        let mut made = before;
+        let count = list.count;
+        list.count = 0;
+        for next in 0..count {
+            if most <= made {
+                break;
             }
-            Turn::Done => made += 1,
+            let which = list.numbers[next];
+            match self.take_turn(which) {
+                Turn::Declined => {}
+                Turn::Open => {
+                    made += 1;
+                    list.push(which);
+                }
+                Turn::Done => made += 1,
+            }
         }
+        made
     }
-    made
-}
 
-// Rounds until `most` deliveries are made or no link is open. Returns how many were made.
-pub(crate) fn pump(
-    sizes: Sizes,
-    most: u64,
-    words: &mut [u64],
-    logs: &[u8],
-    places: &mut [u64; stepping::LINKS],
-) -> u64
-    requires { PumpReady sizes words.old logs.now places.old }
-    ensures { PumpDone sizes most words.old logs.now result words.new }
-{
-    let mut list = OpenLinks::waiting(sizes, words);
-    let mut made: u64 = 0;
-    while 0 < list.count && made < most {
-        made = round(sizes, most, made, words, logs, places, &mut list);
+    // Rounds until `most` deliveries are made or no link is open. Returns how many were made.
+    pub(crate) fn run(&mut self, most: u64) -> u64
+        ensures kept { Kept self.old self.new }
+        ensures done { PumpDone self.old.sizes most (pump_state self.old) result (pump_state self.new) }
+    {
+        let mut list = OpenLinks::waiting(self);
+        let mut made: u64 = 0;
+        while 0 < list.count && made < most {
+            made = self.round(most, made, &mut list);
+        }
+        made
     }
-    made
 }

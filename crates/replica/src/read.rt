@@ -51,16 +51,7 @@ fn row_reading(words: &[u64], row: Row) -> Result<Held, Refusal>
 pub fn read(words: &[u64], counter: u64) -> Result<Held, Refusal>
     ensures { read_answer result ≡ read_on words.now counter }
 {
-    if !words::is_right(words) {
-        return Err(Refusal::BadReplica);
-    }
-    if counter >= words::counters_of(words) {
-        return Err(Refusal::BadCounter);
-    }
-    let row = Row {
-        cards: words::cards_of(words),
-        counter: counter as usize,
-    };
+    let row = words::row_of(words, counter)?;
     row_reading(words, row)
 }
 

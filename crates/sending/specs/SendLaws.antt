@@ -1,12 +1,12 @@
 -- LAWS. What the calls that make a message share: the checks before a message is made, as one number, the outcome of a message that is made, whatever it says, and its header;
 -- and what a clear sends.
-use Rattle.std.specs.Prelude.{ℕ, ◌≤◌, ◌<◌, ◌≡◌, refl, Bool, List, [], ◌∷◌, length, leb}
+use Rattle.std.specs.Prelude.{ℕ, ◌≤◌, ◌<◌, ◌≡◌, refl, Bool, false, List, [], ◌∷◌, length, leb}
 use Rattle.std.proofs.Common.{sym, ◌∙◌, length-append, le-leb, ne_eqb}
 use Rattle.std.proofs.Math.Path.{ap}
 use Rattle.std.proofs.Math.Bool.{true}
 use Rattle.std.proofs.lemmas.List.Edits.{sets}
 use Rattle.std.proofs.lemmas.Bool.{lt-leb}
-use Rattle.protocol.specs.Limits.{MAX, most_amount, short_output}
+use Rattle.protocol.specs.Limits.{most_amount, bad_row, short_output, bad_amount}
 use Rattle.protocol.specs.Refusals.{number_of}
 use Rattle.protocol.specs.declared.Refusal.{Refusal}
 use Rattle.protocol.specs.Checks.{Check, or_else, checked, first_failing}
@@ -18,43 +18,23 @@ use Rattle.protocol.proofs.StoredLists.{sets_append}
 use Rattle.wire.specs.Number.{unsigned_int, unsigned_hyper}
 use Rattle.wire.specs.NumberLaws.{length_bytes_of}
 use Rattle.wire.specs.Message.{version_2, kind_at, sender_at, sequence_at, counter_at, header_bytes_of}
-use Rattle.replica_model.specs.Layout.{cards, counters, own_card, C_of, entry_of}
+use Rattle.replica_model.specs.Layout.{cards, own_card, C_of, N_of, entry_of}
 use Rattle.replica_model.specs.Format.{format_2, size_of}
-use Rattle.replica_model.specs.Calls.{SendOutcome, is_amount, right, row_well_formed, making_checks, not_sent, sent_with, send_with, clear_of, clear_on, with_value, with_value_read, read_and_clear_on}
+use Rattle.replica_model.specs.Calls.{SendOutcome, is_amount, row_well_formed, left_checks, making_checks, not_sent, sent_with, send_with, clear_of, clear_on, with_value, with_value_read, read_and_clear_on}
 use Rattle.replica_model.proofs.Senders.{Sending}
 use Rattle.replica_model.proofs.AcceptedCalls.{sending_facts}
-use Rattle.replica_model.proofs.RowLaws.{tests, right_facts, row_facts}
-use Rattle.layout.specs.WordsLaws.{HeadInside, CInside, NInside, RowInside, head_inside, row_C, row_N}
+use Rattle.replica_model.proofs.RowLaws.{tests}
+use Rattle.layout.specs.WordsLaws.{RowInside, counter_checks, counter_refused, counter_passed}
 use Rattle.layout.specs.Effects.{Receives}
-
--- ---- what the checks that have passed give those behind them: the row is in the words, and the own card in the row
-
-module _ (b : List ℕ) (is_right : true ≡ right b) where
-  pub passed_head : HeadInside b
-  passed_head = head_inside b (right_facts b (sym is_right))
-
-  module _ (r k q : ℕ) (first : r ≡ cards b) (many : k ≡ counters b) (below : q < k) where
-    pub passed_row : RowInside b r q
-    passed_row = record { right = right_facts b (sym is_right); first = first; counter = rw many at below }
-
-    module _ (own : ℕ) (mine : own ≡ own_card b) where
-      own_in : own < r
-      own_in = rw (first, mine) (right_facts b (sym is_right)).own
-
-      pub passed_C : CInside b own
-      passed_C = row_C b r q passed_row own own_in
-
-      pub passed_N : NInside r b own
-      passed_N = row_N b r q passed_row own own_in
-
-      -- a well-formed row has no C above MAX
-      pub passed_small : true ≡ row_well_formed b q → C_of b own ≤ MAX
-      passed_small formed = rw mine ((row_facts b q (sym formed)).tables.C≤MAX (own_card b) (right_facts b (sym is_right)).own)
 
 -- ---- the checks before a message is made, and the one behind
 
 pub amount_range : (w : ℕ) → is_amount w ≡ true → (1 ≤ w) × (w ≤ most_amount)
 amount_range w h = simp tests at h
+
+-- "2, 4": of a card that counts w more
+abbrev pub row_checks : List ℕ → ℕ → ℕ → List Check
+row_checks b q w = or_else (row_well_formed b q) bad_row ∷ left_checks (N_of (cards b) b (own_card b)) (C_of b (own_card b)) w
 
 -- what is left of the call where those before have passed: "5", and the message m is sent
 abbrev room_check : List ℕ → Message → List Check
@@ -67,8 +47,26 @@ module _ (b : List ℕ) (q : ℕ) (asked : Bool) (w : ℕ) where
   abbrev before : List Check
   before = making_checks b q asked w
 
-  pub sends : 0 ≡ first_failing before → Sending b q w × (asked ≡ true)
-  sends none = sending_facts b q asked w (first_passes before refl (sym none))
+  -- behind the first two
+  abbrev behind : List Check
+  behind = or_else asked bad_amount ∷ row_checks b q w
+
+  -- the number that they give is that of the first two, or else 16, or else the row's
+  pub counter_found : (x : Refusal) → number_of x ≡ first_failing (counter_checks b q) → number_of x ≡ first_failing before
+  counter_found = counter_refused b q (λ n. n) behind 0
+
+  module _ (r p : ℕ) (row : RowInside b r p × (p ≡ q)) where
+    decided : first_failing behind ≡ first_failing before
+    decided = counter_passed b q (λ n. n) behind 0 r (rw row.1 at row.0)
+
+    pub amount_found : asked ≡ false → bad_amount ≡ first_failing before
+    amount_found out = rw (← decided, out)
+
+    pub row_found : asked ≡ true → (n : ℕ) → n ≡ first_failing (row_checks b p w) → n ≡ first_failing before
+    row_found inside n found = rw (← decided, inside) (rw row.1 at found)
+
+  pub sends : 0 ≡ first_failing before → Sending b q w
+  sends none = (sending_facts b q asked w (first_passes before refl (sym none))).0
 
   module _ (out : List ℕ) (m : Message) where
     parts : send_with format_2 b q asked w out m ≡ checked (λ n. not_sent n b out) before (with_room b out m)

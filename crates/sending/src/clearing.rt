@@ -14,42 +14,13 @@ ghost use Rattle.replica_model.proofs.PresentLaws.{entry_sent};
 ghost use Rattle.layout.specs.WordsLaws.{RowInside};
 ghost use Rattle.sending.specs.ClearLaws.{entry_made};
 
-use crate::is_left;
+use crate::check_row;
 use layout::words;
 use layout::words::Row;
 use protocol::{Entry, Refusal};
 use replica_model::Made;
 use wire::number::Unsigned;
 use wire::{Kind, encode};
-
-// The first check that fails before a message is made (`making_checks` has them and their order); where none does, the row.
-fn check(words: &[u64], counter: u64) -> Result<Row, Refusal>
-    ensures checked { number_in result ≡ first_failing (making_checks words.now counter true 0) }
-    ensures row { IfOk result (λ row. (row.cards ≡ cards words.now) × (row.counter ≡ counter)) }
-{
-    if !words::is_right(words) {
-        return Err(Refusal::BadReplica);
-    }
-    if words::counters_of(words) <= counter {
-        return Err(Refusal::BadCounter);
-    }
-    let row = Row {
-        cards: words::cards_of(words),
-        counter: counter as usize,
-    };
-    if !row.is_well_formed(words) {
-        return Err(Refusal::BadRow);
-    }
-    let own = words::own_card(words);
-    if !is_left(
-        words::messages_at(words, row.cards, own),
-        words::increments_at(words, own),
-        0,
-    ) {
-        return Err(Refusal::Exhausted);
-    }
-    Ok(row)
-}
 
 // How many entries of the row are present.
 fn holders_of(words: &[u64], row: Row) -> usize
@@ -139,7 +110,8 @@ fn make(words: &mut [u64], row: Row, out: &mut [u8]) -> Made
 pub fn clear(words: &mut [u64], counter: u64, out: &mut [u8]) -> Result<Made, Refusal>
     ensures { ◌≡◌ {A = ClearedOutcome} (record { answer = cleared_answer result; words = words.new; out = out.new }) (read_and_clear_on words.old counter out.old) }
 {
-    let row = check(words, counter)?;
+    let row = words::row_of(words, counter)?;
+    check_row(words, row, 0)?;
     if !has_room(words, row, out.len()) {
         return Err(Refusal::ShortOutput);
     }

@@ -11,45 +11,13 @@ ghost use Rattle.replica_model.specs.Format.{format_2};
 ghost use Rattle.replica_model.specs.Calls.{SendOutcome, is_amount, making_checks, sent_with, count_of, count_on, ClearedOutcome, with_value};
 ghost use Rattle.replica_model.proofs.Senders.{Sending};
 
-use crate::is_left;
+use crate::check_row;
 use layout::words;
 use layout::words::Row;
 use protocol::{Entry, Refusal};
 use replica_model::Made;
 use wire::number::Unsigned;
 use wire::{Kind, encode, range};
-
-// The first check that fails before a message is made (`making_checks` has them and their order); where none does, the row.
-fn check(words: &[u64], counter: u64, amount: u64) -> Result<Row, Refusal>
-    ensures checked { number_in result ≡ first_failing (making_checks words.now counter (is_amount amount) amount) }
-    ensures row { IfOk result (λ row. (row.cards ≡ cards words.now) × (row.counter ≡ counter)) }
-{
-    if !words::is_right(words) {
-        return Err(Refusal::BadReplica);
-    }
-    if words::counters_of(words) <= counter {
-        return Err(Refusal::BadCounter);
-    }
-    if !range::is_amount(amount) {
-        return Err(Refusal::BadAmount);
-    }
-    let row = Row {
-        cards: words::cards_of(words),
-        counter: counter as usize,
-    };
-    if !row.is_well_formed(words) {
-        return Err(Refusal::BadRow);
-    }
-    let own = words::own_card(words);
-    if !is_left(
-        words::messages_at(words, row.cards, own),
-        words::increments_at(words, own),
-        amount,
-    ) {
-        return Err(Refusal::Exhausted);
-    }
-    Ok(row)
-}
 
 // Lines 13 to 16, for an amount: p goes on from the own entry, and from all that the card has counted where there is none.
 fn next_p(e: Entry, counted: u64, amount: u64) -> u64
@@ -119,7 +87,11 @@ fn make(words: &mut [u64], row: Row, amount: u64, out: &mut [u8]) -> u64
 pub fn count(words: &mut [u64], counter: u64, amount: u64, out: &mut [u8]) -> Result<Made, Refusal>
     ensures { ◌≡◌ {A = ClearedOutcome} (record { answer = cleared_answer result; words = words.new; out = out.new }) (with_value 0 (count_on words.old counter amount out.old)) }
 {
-    let row = check(words, counter, amount)?;
+    let row = words::row_of(words, counter)?;
+    if !range::is_amount(amount) {
+        return Err(Refusal::BadAmount);
+    }
+    check_row(words, row, amount)?;
     if out.len() < wire::INCREMENT_BYTES {
         return Err(Refusal::ShortOutput);
     }

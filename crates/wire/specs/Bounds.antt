@@ -95,11 +95,7 @@ module _ (m : Message) (h : in_range m ≡ true) where
   pub len_few : m.len ≤ most_cards
   len_few = body_cases (bounds m h).body (λ kind none range. omega arith) (λ kind no_p no_start no_amount few. few)
 
-  -- no clear: an increment
-  pub kind_increment : (m.kind ≢ clear_kind) → m.kind ≡ increment_kind
-  kind_increment other = body_cases (bounds m h).body (λ kind none range. kind) (λ kind no_p no_start no_amount few. absurd (other kind))
-
-  -- and then its numbers have their bounds
+  -- the numbers of an increment have their bounds
   pub increment_bounds : (m.kind ≢ clear_kind) → IncrementBounds m.version m.p m.start m.amount
   increment_bounds other = body_cases (bounds m h).body (λ kind none range. range) (λ kind no_p no_start no_amount few. absurd (other kind))
 

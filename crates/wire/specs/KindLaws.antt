@@ -5,18 +5,9 @@ use Rattle.protocol.specs.declared.Refusal.{Refusal}
 use Rattle.protocol.proofs.Cases.{by_place}
 use Rattle.wire.specs.Message.{increment_kind, clear_kind}
 use Rattle.wire.specs.Told.{kind_of}
-use Rattle.wire.specs.declared.Kind.TheVariants.{Increment, Clear}
+use Rattle.wire.specs.declared.Kind.TheVariants.{Clear}
 
 module _ (number : ℕ) where
-  pub names_increment : kind_of number ≡ Result.Ok Increment → number ≡ increment_kind
-  names_increment named =
-      by_place number increment_kind
-      (λ e. e)
-      (λ d.
-      by_place number clear_kind
-      (λ e. let h = rw (ne_eqb number increment_kind d, eq-eqb number clear_kind e) at named in cc)
-      (λ g. let h = rw (ne_eqb number increment_kind d, ne_eqb number clear_kind g) at named in cc))
-
   pub names_clear : kind_of number ≡ Result.Ok Clear → number ≡ clear_kind
   names_clear named =
       by_place number increment_kind

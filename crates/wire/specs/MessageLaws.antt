@@ -1,7 +1,8 @@
 -- LAWS. When bytes read in a version, case by case: by the length, the version, the kind and the ranges; and the message that a longer list starts with.
 use Rattle.std.specs.Prelude.{◌≡◌, ℕ, ◌<◌, ◌≤◌, Bool, true, false, ◌&&◌, List, length, take, Option, ◌==◌, ◌≢◌, nat_le, refl}
+use Rattle.std.specs.Bool.{then_some}
 use Rattle.std.proofs.Common.{sym, ◌∙◌, arith}
-use Rattle.std.proofs.Math.Bool.{and-true, and-false}
+use Rattle.std.proofs.Math.Bool.{and_assoc, and-true, and-false}
 use borrow.Author.Tests.{eq-eqb, ne_eqb, le-leb, lt-leb}
 use Rattle.protocol.specs.Limits.{most_cards, most_amount, unreadable}
 use Rattle.protocol.proofs.Cases.{by_test, by_place}
@@ -89,6 +90,19 @@ module _ (version : ℕ) (s : List ℕ) (same : int_at s 0 ≡ version) (kind : 
   reads_increment_inexact other = sym (reads_increment ∙ rw (ne_eqb (length s) (increment_length version) other))
 
   module _ (exact : length s ≡ increment_length version) where
+    reads_increment_whole : reads version s ≡ header_fits version s && increment_fits s && amount_fits version s
+    reads_increment_whole =
+        reads_increment ∙ rw (eq-eqb (length s) (increment_length version) exact) (sym (and_assoc (header_fits version s) (increment_fits s) (amount_fits version s)))
+
+    -- by the version: with its amount, and without
+    pub reads_with_amount : has_amount version ≡ true → reads version s ≡ header_fits version s && increment_fits s && from_one_to most_amount (int_at s amount_at)
+    unfolding amount_in_range
+    reads_with_amount has = reads_increment_whole ∙ rw has
+
+    pub reads_without_amount : has_amount version ≡ false → reads version s ≡ header_fits version s && increment_fits s
+    unfolding amount_in_range
+    reads_without_amount none = reads_increment_whole ∙ rw none (and-true (header_fits version s && increment_fits s))
+
     pub reads_increment_unfit : increment_fits s ≡ false → false ≡ reads version s
     reads_increment_unfit fails = sym (reads_increment ∙ rw (fails, and-false (header_fits version s), and-false (length s == increment_length version)))
 
@@ -96,14 +110,9 @@ module _ (version : ℕ) (s : List ℕ) (same : int_at s 0 ≡ version) (kind : 
       reads_increment_exact : reads version s ≡ header_fits version s && amount_fits version s
       reads_increment_exact = reads_increment ∙ rw (eq-eqb (length s) (increment_length version) exact, fits)
 
-      -- by the version: with its amount, and without
       pub reads_increment_counted : has_amount version ≡ true → reads version s ≡ header_fits version s && from_one_to most_amount (int_at s amount_at)
       unfolding amount_in_range
       reads_increment_counted has = reads_increment_exact ∙ rw has
-
-      pub reads_increment_plain : has_amount version ≡ false → reads version s ≡ header_fits version s
-      unfolding amount_in_range
-      reads_increment_plain none = reads_increment_exact ∙ rw none (and-true (header_fits version s))
 
 -- bytes of a clear's version and kind: the number of entries, the length, then the ranges
 module _ (version : ℕ) (s : List ℕ) (same : int_at s 0 ≡ version) (kind : int_at s kind_at ≡ clear_kind) (n : ℕ) (count : n ≡ int_at s count_at) where
@@ -135,13 +144,10 @@ module _ (version : ℕ) (s : List ℕ) (n : ℕ) (called : n ≡ called_length 
   unfolding front_length
   front_length_short short = rw (← called, lt-leb n (length s) short)
 
-  module _ (room : n ≤ length s) where
-    pub front_length_some : reads version (take n s) ≡ true → Option.Some n ≡ unless_0 (front_length version s)
-    unfolding front_length
-    front_length_some h =
-        let some : n ≢ 0 = λ e. omega (arith, called_length_least version s) in
-        rw (← called, le-leb n (length s) room, h, ne_eqb n 0 some)
-
-    pub front_length_none : reads version (take n s) ≡ false → Option.None ≡ unless_0 (front_length version s)
-    unfolding front_length
-    front_length_none h = rw (← called, le-leb n (length s) room, h)
+  -- where it has that length, by whether so many bytes read
+  pub front_length_read : n ≤ length s → (found : Bool) → found ≡ reads version (take n s) → then_some found n ≡ unless_0 (front_length version s)
+  unfolding front_length
+  front_length_read room true h =
+      let some : n ≢ 0 = λ e. omega (arith, called_length_least version s) in
+      rw (← called, le-leb n (length s) room, ← h, ne_eqb n 0 some)
+  front_length_read room false h = rw (← called, le-leb n (length s) room, ← h)

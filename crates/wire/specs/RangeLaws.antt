@@ -1,26 +1,11 @@
--- LAWS. Ranges as the code tests them: one that starts at 1 by one comparison of a wrapped difference, an entry a range at a time, and a header apart from its version.
-use Rattle.std.specs.Prelude.{◌≡◌, ℕ, suc, ◌+◌, ◌%◌, ◌^◌, ◌<◌, Bool, true, ◌&&◌, nat_le, nat_lt}
-use Rattle.std.proofs.Common.{sym, ◌∙◌, mod-eq_of_lt, arith, lt-ltb, le-ltb, le-leb}
+-- LAWS. Ranges as the code tests them: an entry a range at a time, and a header apart from its version.
+use Rattle.std.specs.Prelude.{◌≡◌, ℕ, Bool, true, ◌&&◌, nat_le, nat_lt}
+use Rattle.std.proofs.Common.{◌∙◌, arith, le-leb}
 use Rattle.std.proofs.Math.Bool.{and_assoc}
 use Rattle.std.proofs.lemmas.Bool.{lt-leb}
 use Rattle.protocol.specs.Limits.{MAX, most_cards, most_counters}
 use Rattle.protocol.proofs.Cases.{by_le}
 use Rattle.wire.specs.Message.{is_version, from_one_to, header_in_range}
-
--- r is x - 1 in 64 bits: 0 wraps past every bound
-pub wrapped_below : (r x most : ℕ) → r < 2 ^ 64 → most < 2 ^ 64 → (r + 1) % 2 ^ 64 ≡ x → nat_lt r most ≡ from_one_to most x
-wrapped_below r x most word bound wraps =
-    by_le (suc r) most
-    (λ l.
-    let same : r + 1 ≡ x = sym (mod-eq_of_lt (omega arith)) ∙ wraps in
-    rw (lt-ltb r most l, le-leb 1 x (omega arith), le-leb x most (omega arith)))
-    (λ g.
-    by_le 1 x
-    (λ some.
-    let whole : r + 1 < 2 ^ 64 = omega arith in
-    let same : r + 1 ≡ x = sym (mod-eq_of_lt whole) ∙ wraps in
-    rw (le-ltb r most (omega arith), le-leb 1 x some, lt-leb x most (omega arith)))
-    (λ none. rw (le-ltb r most (omega arith), lt-leb 1 x none)))
 
 -- 1 ≤ p ≤ c makes c at least 1
 from_one_twice : (p c most : ℕ) → from_one_to c p && from_one_to most c ≡ from_one_to c p && nat_le c most

@@ -1,9 +1,9 @@
 -- LAWS. The lengths of a message's parts in bytes, and what the stores of a writer leave.
-use Rattle.std.specs.Prelude.{◌≡◌, ℕ, ◌+◌, ◌<◌, ◌≤◌, true, false, List, ◌++◌, length, ◌≢◌, refl}
+use Rattle.std.specs.Prelude.{◌≡◌, ℕ, ◌<◌, ◌≤◌, true, false, List, ◌++◌, length, ◌≢◌, refl}
 use Rattle.std.proofs.Math.Path.{sym}
 use Rattle.std.proofs.Common.{◌∙◌, length-append}
 use mathlib.Core.List.{append-nil}
-use Rattle.std.proofs.Math.Seq.{sets, length-sets}
+use Rattle.std.proofs.Math.Seq.{sets}
 use borrow.Author.Tests.{eq-eqb, ne_eqb, le-leb, lt-leb}
 use Rattle.protocol.proofs.Cases.{by_test, by_place}
 use Rattle.protocol.specs.declared.ClearEntry.{ClearEntry}
@@ -65,9 +65,6 @@ module _ (m : Message) (out first second third : List ℕ) (other : m.kind ≢ c
   increment_stored none =
       let fits : length plain ≤ length out = rw plain_length (rw none at room) in
       rw (ne_eqb m.kind clear_kind other, none, append-nil plain) (plain_stored ∙ sets_front plain out fits)
-
-  pub amount_room : has_amount m.version ≡ true → amount_at + int_width ≤ length third
-  amount_room has = rw (plain_stored, length-sets out 0 plain) (rw has at room)
 
   pub amount_stored : has_amount m.version ≡ true → (last : List ℕ) → last ≡ sets third amount_at (unsigned_int m.amount) → last ≡ over (message_bytes m) out
   unfolding message_bytes increment_bytes

@@ -21,16 +21,14 @@ fn does_increment_read(mut rest: Reader, version: u32, header: Header) -> bool
         return false;
     }
     let body = rest.increment();
-    // Tested before the amount is read: where p is used only past a branch, the compiler puts it together byte by byte.
-    if !range::increment_in_range(body.p, body.start) {
-        return false;
-    }
-    let others = range::rest_in_range(header.sender, header.sequence, header.counter);
+    let others = range::rest_in_range(header.sender, header.sequence, header.counter)
+        & range::increment_in_range(body.p, body.start);
     if has_amount(version) {
         let amount: u32 = rest.next();
-        return others & range::is_amount(u64::from(amount));
+        others & range::is_amount(u64::from(amount))
+    } else {
+        others
     }
-    others
 }
 
 // The next `count` entries.
@@ -178,9 +176,10 @@ pub fn called_length_of(bytes: &[u8], version: u32) -> usize
     let header = rest.header();
     if header.kind == Kind::Clear as u32 {
         let count: u32 = rest.next();
-        return clear_length(count as usize);
+        clear_length(count as usize)
+    } else {
+        increment_length(version)
     }
-    increment_length(version)
 }
 
 // The length of the message of this version that the bytes start with, if they start with one that reads.
@@ -193,12 +192,6 @@ pub fn front_length(bytes: &[u8], version: u32) -> Option<usize>
         return None;
     }
     let called = called_length_of(bytes, version);
-    if bytes.len() < called {
-        return None;
-    }
-    if reads(&bytes[..called], version) {
-        Some(called)
-    } else {
-        None
-    }
+    let front = bytes.get(..called)?;
+    reads(front, version).then_some(called)
 }

@@ -38,6 +38,7 @@ pub const ENTRY_P_AT: usize = INT_BYTES;
 
 pub const ENTRY_C_AT: usize = ENTRY_P_AT + HYPER_BYTES;
 
+// Writes the header where there is room for it, whatever its numbers.
 fn put_header(m: &Message, out: &mut [u8])
     requires { header_length ≤ length out.old }
     ensures { out.new ≡ sets out.old 0 (header_bytes m.now) }
@@ -79,7 +80,8 @@ fn put_clear(m: &Message, out: &mut [u8])
     }
 }
 
-// Ruled out: a message in another form than its one (must-fail/unused_not_zero).
+// A message has one form: what its version and its kind do not use is 0.
+// Ruled out: one in another form (must-fail/unused_not_zero).
 fn in_range(m: &Message) -> bool
     ensures { result ≡ in_range m.now }
 {
@@ -98,13 +100,13 @@ fn length_of(version: u32, kind: u32, len: usize) -> usize
     ensures { result ≡ length_of version kind len }
 {
     if kind == Kind::Clear as u32 {
-        return clear_length(len);
+        clear_length(len)
+    } else {
+        increment_length(version)
     }
-    increment_length(version)
 }
 
-// Writes the message from the first byte on, and answers its length; or declines with `Unreadable`, then `ShortOutput`, and leaves every byte. A message has one form:
-// what its version and its kind do not use is 0.
+// Writes the message from the first byte on, and answers its length; or declines with `Unreadable`, then `ShortOutput`, and leaves every byte.
 // Ruled out: a writer that takes a message in another form than its one (must-fail/unused_not_zero), and one that touches a byte
 // past the message (must-fail/entry_past_the_last).
 pub fn write_message(m: Message, out: &mut [u8]) -> Result<usize, Refusal>

@@ -139,7 +139,7 @@ impl From<Result<usize, Refusal>> for Written {
 fn is_version(version: u32) -> bool
     ensures { result ≡ is_version version }
 {
-    (VERSION_1 <= version) & (version <= VERSION_2)
+    (VERSION_1..=VERSION_2).contains(&version)
 }
 
 // Ruled out: an amount in version 1 (must-fail/amount_in_version_1), and a later version without one.
@@ -154,9 +154,10 @@ fn increment_length(version: u32) -> usize
     ensures { result ≡ increment_length version }
 {
     if has_amount(version) {
-        return INCREMENT_BYTES;
+        INCREMENT_BYTES
+    } else {
+        PLAIN_INCREMENT_BYTES
     }
-    PLAIN_INCREMENT_BYTES
 }
 
 // The length of a clear with so many entries, as many as a length word can say.

@@ -11,11 +11,10 @@ const MOST_CARDS: u32 = protocol::MOST_CARDS as u32;
 
 const MOST_COUNTERS: u32 = protocol::MOST_COUNTERS as u32;
 
-// One comparison, 0 wrapping past every bound: compared with MAX directly, a word just read from bytes would be read by halves.
 fn from_one(x: u64, most: u64) -> bool
     ensures { result ≡ from_one_to most x }
 {
-    x.wrapping_sub(1) < most
+    (1..=most).contains(&x)
 }
 
 // A header but for its version.

@@ -4,7 +4,8 @@ ghost use Rattle.protocol.specs.Refusals.{number_in};
 ghost use Rattle.chassis_model.specs.Run.{RunOutcome, run_on};
 
 use crate::number;
-use chassis::{run, stepping};
+use chassis::run;
+use chassis::stepping::Chassis;
 use chassis_model::Step;
 use protocol::Refusal;
 
@@ -20,18 +21,18 @@ fn run_records(
 ) -> Result<(), Refusal>
     ensures { ◌≡◌ {A = RunOutcome} (record { number = number_in result; words = words.new; logs = logs.new; answers = answers.new }) (run_on cards counters log_bytes steps.now words.old logs.old answers.old) }
 {
-    let sizes = run::start(
+    let sizes = run::checked_sizes(
         cards,
         counters,
         log_bytes,
         steps.len(),
-        words,
+        words.len(),
         logs.len(),
         answers.len(),
     )?;
-    let mut places: [u64; stepping::LINKS] = [0; stepping::LINKS];
+    let mut chassis = Chassis::fresh(sizes, words, logs);
     for (i, s) in steps.iter().enumerate() {
-        stepping::answer_step(sizes, *s, i, words, logs, answers, &mut places);
+        chassis.answer_step(*s, i, answers);
     }
     Ok(())
 }

@@ -1,34 +1,24 @@
--- By the first two checks in turn; past each, what it tested is known. The third is the row's own.
-use Rattle.std.proofs.Common.{sym, ◌∙◌, le-ltb, lt-ltb}
-use Rattle.replica_model.specs.Calls.{read_on}
-use Rattle.replica_model.proofs.RowLaws.{right_facts}
-use Rattle.layout.specs.WordsLaws.{head_inside}
+-- A refusal before the row is the call's (`counter_refused`); else the row decides (`counter_passed`).
+use Rattle.std.proofs.Common.{[], ◌∷◌, ◌∙◌}
+use Rattle.std.proofs.lemmas.Result.{err_from_is_err_and}
+use Rattle.protocol.specs.Limits.{bad_row}
+use Rattle.protocol.specs.Checks.{or_else}
+use Rattle.replica_model.specs.Calls.{row_well_formed, no_reading, reading, read_on}
+use Rattle.layout.specs.WordsLaws.{counter_refused, counter_passed}
 use Rattle.replica.proofs.read.read.Goals as goal
 
-pub returns-then-not-is_right : goal.returns-then-not-is_right
+pub returns-in_err-row : goal.returns-in_err-row
 unfolding read_on
-returns-then-not-is_right c = simp (sym c.is_right.ensures ∙ c.if-not-is_right.true)
-
-pub counters_of-requires : goal.counters_of-requires
-counters_of-requires c = head_inside _ (right_facts _ (sym c.is_right.ensures ∙ c.if-not-is_right.false))
-
-pub cards_of-requires : goal.cards_of-requires
-cards_of-requires c = head_inside _ (right_facts _ (sym c.is_right.ensures ∙ c.if-not-is_right.false))
-
-pub returns-then-counter-counters_of : goal.returns-then-counter-counters_of
-unfolding read_on
-returns-then-counter-counters_of c =
-    simp (sym c.is_right.ensures ∙ c.if-not-is_right.false, le-ltb _ _ (rw c.counters_of.ensures at c.if-counter-counters_of.true))
-
-pub row_reading-requires : goal.row_reading-requires
-row_reading-requires c =
-    record {
-      right = right_facts _ (sym c.is_right.ensures ∙ c.if-not-is_right.false);
-      first = c.cards_of.ensures;
-      counter = rw c.counters_of.ensures at c.if-counter-counters_of.false;
-    }
+returns-in_err-row c =
+    let b = c.args.words.now in
+    let q = c.args.counter in
+    let p = err_from_is_err_and c.from_residual.result c.from_residual.ensures.1 in
+    rw (p.1, p.2) (counter_refused b q no_reading (or_else (row_well_formed b q) bad_row ∷ []) (reading b q) c.in_err-row.field-0.0 c.in_err-row.ensures.checked)
 
 pub returns : goal.returns
 unfolding read_on
 returns c =
-    simp (sym c.is_right.ensures ∙ c.if-not-is_right.false, lt-ltb _ _ (rw c.counters_of.ensures at c.if-counter-counters_of.false)) c.row_reading.ensures
+    let b = c.args.words.now in
+    let q = c.args.counter in
+    let found = c.in_ok-row.ensures.row in
+    (rw found.1 at c.row_reading.ensures) ∙ counter_passed b q no_reading (or_else (row_well_formed b q) bad_row ∷ []) (reading b q) _ (rw found.1 at found.0)

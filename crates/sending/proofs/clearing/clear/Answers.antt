@@ -1,5 +1,5 @@
--- The refusal says which check failed, or the row that none did (`read_and_clear_refused`, `read_and_clear_passed`); then the room decides.
-use Rattle.std.proofs.Common.{◌≡◌, ℕ, List, Bool, true, length, leb, sym, ap, ◌∙◌}
+-- A refusal before the message is made is the call's (`counter_found`, `row_found`, `read_and_clear_refused`); where there is none (`read_and_clear_passed`) the room decides.
+use Rattle.std.proofs.Common.{◌≡◌, ℕ, List, Bool, true, length, leb, refl, sym, ap, ◌∙◌}
 use Rattle.std.proofs.lemmas.Result.{err_from_is_err_and}
 use borrow.Author.Tests.{leb-true, leb-false}
 use Rattle.protocol.specs.Chassis.{Message, present_entries}
@@ -7,7 +7,7 @@ use Rattle.wire.specs.Message.{clear_length}
 use Rattle.replica_model.specs.Layout.{cards, entry_of}
 use Rattle.replica_model.specs.Format.{size_of}
 use Rattle.replica_model.specs.Calls.{clear_of, with_value_read}
-use Rattle.sending.specs.SendLaws.{sends, row_inside, clear_made, too_short, read_and_clear_refused, read_and_clear_passed}
+use Rattle.sending.specs.SendLaws.{sends, counter_found, row_found, clear_made, too_short, read_and_clear_refused, read_and_clear_passed}
 use Rattle.sending.proofs.clearing.clear.Goals as goal
 
 -- whether there is room for the clear
@@ -17,28 +17,37 @@ roomy b out r q counter t first same is = sym (is ∙ rw same (ap (λ (m : Messa
 
 pub returns-in_err-row : goal.returns-in_err-row
 returns-in_err-row c =
+    let x = c.in_err-row.field-0.0 in
     let p = err_from_is_err_and c.from_residual.result c.from_residual.ensures.1 in
-    rw (p.1, p.2) (read_and_clear_refused _ _ c.args.out.now c.in_err-row.field-0.0 c.in_err-row.ensures.checked)
+    rw (p.1, p.2) (read_and_clear_refused _ _ c.args.out.now x (counter_found _ _ true 0 x c.in_err-row.ensures.checked))
+
+pub returns-in_err-check_row : goal.returns-in_err-check_row
+returns-in_err-check_row c =
+    let x = c.in_err-check_row.field-0.0 in
+    let p = err_from_is_err_and c.from_residual-in_err-check_row.result c.from_residual-in_err-check_row.ensures.1 in
+    rw (p.1, p.2) (read_and_clear_refused _ _ c.args.out.now x (row_found _ _ true 0 _ _ c.in_ok-row.ensures.row refl _ c.in_err-check_row.ensures))
 
 pub has_room-requires : goal.has_room-requires
-has_room-requires c = rw c.in_ok-row.ensures.row.1 (row_inside _ _ _ _ c.in_ok-row.ensures.row.0 (sends _ _ true 0 c.in_ok-row.ensures.checked).0)
+has_room-requires c = c.in_ok-row.ensures.row.0
 
 pub returns-then-not-has_room : goal.returns-then-not-has_room
 returns-then-not-has_room c =
     let b = c.args.words.now in
     let q = c.args.counter in
     let out = c.args.out.now in
-    ap (with_value_read b q) (too_short b out (clear_of b q) (leb-false _ _ (roomy b out _ _ q _ c.in_ok-row.ensures.row.0 c.in_ok-row.ensures.row.1 c.if-not-has_room.ensures)))
-    ∙ read_and_clear_passed b q out c.in_ok-row.ensures.checked
+    let row = c.in_ok-row.ensures.row in
+    ap (with_value_read b q) (too_short b out (clear_of b q) (leb-false _ _ (roomy b out _ _ q _ row.0.first row.1 c.if-not-has_room.ensures)))
+    ∙ read_and_clear_passed b q out (row_found _ _ true 0 _ _ row refl 0 c.in_ok-check_row.ensures)
 
 pub make-requires : goal.make-requires
 make-requires c =
     let b = c.args.words.now in
     let q = c.args.counter in
-    rw c.in_ok-row.ensures.row.1 (
-      c.in_ok-row.ensures.row.0,
-      (sends b q true 0 c.in_ok-row.ensures.checked).0,
-      leb-true _ _ (roomy b c.args.out.now _ _ q _ c.in_ok-row.ensures.row.0 c.in_ok-row.ensures.row.1 c.if-not-has_room.ensures),
+    let row = c.in_ok-row.ensures.row in
+    rw row.1 (
+      row.0.first,
+      sends b q true 0 (row_found _ _ true 0 _ _ row refl 0 c.in_ok-check_row.ensures),
+      leb-true _ _ (roomy b c.args.out.now _ _ q _ row.0.first row.1 c.if-not-has_room.ensures),
     )
 
 pub returns : goal.returns
@@ -46,5 +55,6 @@ returns c =
     let b = c.args.words.now in
     let q = c.args.counter in
     let out = c.args.out.now in
-    (rw c.in_ok-row.ensures.row.1 at c.make.ensures)
-    ∙ (rw (roomy b out _ _ q _ c.in_ok-row.ensures.row.0 c.in_ok-row.ensures.row.1 c.if-not-has_room.ensures) at (read_and_clear_passed b q out c.in_ok-row.ensures.checked))
+    let row = c.in_ok-row.ensures.row in
+    (rw row.1 at c.make.ensures)
+    ∙ (rw (roomy b out _ _ q _ row.0.first row.1 c.if-not-has_room.ensures) at (read_and_clear_passed b q out (row_found _ _ true 0 _ _ row refl 0 c.in_ok-check_row.ensures)))

@@ -10,8 +10,8 @@ returns-then-header c =
     let h = header_read c.args.bytes.now c.header-header.result c.header-header.ensures.0 in
     rw (c.clear_length.ensures, c.next-count.ensures.0, c.header-header.ensures.1, c.header-header.ensures.2, ← h.kind, eq-eqb _ clear_kind c.if-header.true)
 
-pub returns : goal.returns
+pub returns-else-header : goal.returns-else-header
 unfolding called_length
-returns c =
+returns-else-header c =
     let h = header_read c.args.bytes.now c.header-header.result c.header-header.ensures.0 in
     rw (c.increment_length.ensures, ← h.kind, ne_eqb _ clear_kind c.if-header.false)

@@ -1,6 +1,0 @@
--- The invariant: the receivers passed are marked, and no other place has moved (`Marked`).
-use Rattle.lent.specs.Lent.{Marked}
-use Rattle.lent.proofs.places.mark.Given as goal
-
-abbrev pub invariant-loop-receiver : goal.invariant-loop-receiver
-invariant-loop-receiver l = Marked l.sizes l.words l.sender l.number l.at l.receiver l.initial.places l.places
