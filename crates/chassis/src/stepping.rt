@@ -23,6 +23,7 @@ use sending::{clearing, counting};
 use taking::take;
 use wire::decode;
 
+// The numbers of the kinds, as a host in C writes them into a step: `action_of` turns them into the enum.
 const COUNT: u32 = 1;
 
 const CLEAR: u32 = 2;
@@ -37,7 +38,7 @@ pub const ANSWER_WORDS: usize = 2;
 // The limit as an index.
 pub const MOST_CARDS: usize = protocol::MOST_CARDS as usize;
 
-// One place for each receiver and sender.
+// One place for each receiver and sender, in fixed memory: nothing is allocated.
 pub const LINKS: usize = MOST_CARDS * MOST_CARDS;
 
 // What a step asks for. Nothing else looks at its numbers.
@@ -134,7 +135,7 @@ fn next_message(log: &[u8], at: usize) -> &[u8]
     &rest[..length]
 }
 
-// What take gave for a message that was handed over, and the place behind that message.
+// What take gave for a message that was handed over, and the place behind that message, which counts whether it was taken or not.
 #[derive(Clone, Copy)]
 pub struct Handed {
     pub taken: Result<u64, Refusal>,

@@ -34,14 +34,14 @@ pub enum Action {
     Nothing,
 }
 
-// What a step answers: its number, and the value read.
+// What a step answers, in two words of a host in C: its number, and the value read.
 #[derive(Clone, Copy)]
 pub struct StepAnswer {
     pub number: u64,
     pub value: u64,
 }
 
-// What delivering what waits answers: its number, and how many deliveries it made.
+// What delivering what waits answers a host in C: its number, and how many deliveries it made.
 #[repr(C)]
 #[derive(Clone, Copy)]
 pub struct Delivered {

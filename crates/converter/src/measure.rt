@@ -46,6 +46,7 @@ pub(crate) fn measure(log: &[u8], version: u32) -> Option<Found>
     let mut by_one = true;
     let mut increments: usize = 0;
     let mut rest = log;
+    // No index: what was read is taken off the front. An iterator of its own would hold these lines and a type.
     while !rest.is_empty() {
         let length = decode::front_length(rest, version)?;
         let (message, behind) = rest.split_at(length);

@@ -72,6 +72,7 @@ pub(crate) fn put_log(log: &[u8], from: u32, to: u32, out: &mut [u8])
 {
     let mut rest = log;
     let mut at: usize = 0;
+    // No index, as in `measure`.
     while !rest.is_empty() {
         let (message, behind) = rest.split_at(decode::called_length_of(rest, from));
         at += put_message(message, to, &mut out[at..]);

@@ -222,7 +222,8 @@ pub fn counts_joined(words: &[u64], r: usize) -> u64
     all
 }
 
-// The row of a counter, in the words of a replica of so many cards: the entries of that counter, one for each card.
+// The words are not held: they are read through a `&` and written through a `&mut`, so each reading method would stand twice, and what is true of both stands in each
+// contract (`RowInside`). The row of a counter, in the words of a replica of so many cards: the entries of that counter, one for each card.
 #[derive(Clone, Copy)]
 pub struct Row {
     pub cards: usize,

@@ -91,6 +91,7 @@ impl Replicas<'_> {
         self.mark(sender, 0, 0, places);
         let mut n: u64 = 0;
         let mut at: usize = 0;
+        // No index: from one stop to the next.
         while n < made {
             let stop = self.next_stop(sender, n, made);
             let Some(place) = walk(log, sender, n, stop, at) else {

@@ -145,6 +145,7 @@ impl Pump<'_> {
     {
         let mut list = OpenLinks::waiting(self);
         let mut made: u64 = 0;
+        // No index: on until none is open.
         while 0 < list.count && made < most {
             made = self.round(most, made, &mut list);
         }

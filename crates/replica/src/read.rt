@@ -67,7 +67,7 @@ pub fn active_counters(words: &[u64]) -> Result<u64, Refusal>
     }
 }
 
-// Ruled out: quiet by a value of 0, and quiet by a refused read's zeros (must-fail/quiet_as_value_0 and quiet_though_refused of crate
+// Of the answer that a host is told, as its definition is. Ruled out: quiet by a value of 0, and quiet by a refused read's zeros (must-fail/quiet_as_value_0 and quiet_though_refused of crate
 // replica_model).
 pub fn is_quiet(a: Reading) -> bool
     ensures { result ≡ is_quiet a }

@@ -36,7 +36,7 @@ fn is_finished(c: u64, e: Entry) -> bool
     (e.p == e.n) & (e.c == c)
 }
 
-// Lines 37 and 38, likewise.
+// Lines 37 and 38, likewise. Two tests of the paper, each on its lines: one for both would say neither.
 fn is_settled(received: u64, e: Entry) -> bool
     ensures { result ≡ settled received e }
 {

@@ -75,7 +75,7 @@ const NO_MESSAGE: Message = Message {
     entries: [NO_ENTRY; MOST_ENTRIES],
 };
 
-// A message held whole: an increment uses `p`, `start` and from version 2 on `amount`, a clear the first `len` entries. What its version and its
+// As a host in C has it, so its kind is a number, and its entries stand in an array with their count beside it. A message held whole: an increment uses `p`, `start` and from version 2 on `amount`, a clear the first `len` entries. What its version and its
 // kind do not use is zero.
 #[repr(C)]
 #[derive(Clone, Copy)]
@@ -92,7 +92,7 @@ pub struct Message {
     pub entries: [ClearEntry; MOST_ENTRIES],
 }
 
-// Number 0 with the message, or `UNREADABLE` with zeros.
+// Number 0 with the message, or that of `Unreadable` with zeros. The number stands beside the message since a host in C is told it so; so too in `Written`.
 #[repr(C)]
 #[derive(Clone, Copy)]
 pub struct Reading {

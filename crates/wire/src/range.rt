@@ -106,9 +106,16 @@ pub(crate) fn entries_in_range(entries: &[ClearEntry]) -> bool
     true
 }
 
-// The places that a message does not use.
+// The places that a message does not use. A pattern, since a constant to compare with would be data of the archive, which has none.
 pub(crate) fn unused(entries: &[ClearEntry]) -> bool
     ensures { result ≡ unused entries.now }
 {
-    entries.iter().all(|entry| *entry == NO_ENTRY)
+    entries.iter().all(|entry| matches!(
+        entry,
+        ClearEntry {
+            card: 0,
+            p: 0,
+            c: 0
+        }
+    ))
 }

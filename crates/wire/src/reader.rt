@@ -15,7 +15,7 @@ pub struct Reader<'a> {
     pub at: usize,
 }
 
-// The numbers that every message starts with.
+// The numbers that every message starts with, the kind as it stands in the bytes: `Kind::try_from` gives its name.
 #[derive(Clone, Copy)]
 pub struct Header {
     pub version: u32,

@@ -18,7 +18,7 @@ use protocol::Refusal;
 use replica_model::{Active, Cleared, Reading, Sent, Taken};
 use wire::{Message, Written};
 
-// The answer of a call that is told by a number alone.
+// The answer of a call of which a host in C is told a number alone.
 fn number(outcome: Result<(), Refusal>) -> u64
     ensures { result ≡ number_in outcome }
 {
