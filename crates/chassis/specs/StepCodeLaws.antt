@@ -56,8 +56,10 @@ pub record HandReady (sizes : Sizes) (i s at : ℕ) (words logs : List ℕ) : Ty
   pub sender : s < sizes.cards
   pub stands : WaitsAt sizes.log_bytes (part sizes.log_bytes logs s) (N_at sizes.cards sizes.counters sizes.log_bytes (state_of words logs) i s) at
 
--- it was handed over
+-- it was handed over, and take gave what it gives for that message
 pub record HandedOver (sizes : Sizes) (i s at : ℕ) (words logs : List ℕ) (handed : Handed) (words' : List ℕ) : Type 0 where
+  pub taken_is : taken_answer handed.taken
+      ≡ (take_on (part sizes.replica_words words i) (take (called_length version_2 (drop at (part sizes.log_bytes logs s))) (drop at (part sizes.log_bytes logs s)))).answer
   pub outcome : ◌≡◌ {A = Stepped} (record { answer = answered (number_in handed.taken); state = state_of words' logs })
       (delivered sizes.cards sizes.counters sizes.log_bytes i s (state_of words logs))
   pub behind : handed.behind ≡ at + called_length version_2 (drop at (part sizes.log_bytes logs s))
@@ -287,6 +289,7 @@ module _ (sizes : Sizes) (i s at : ℕ) (words logs : List ℕ) (h : HandReady s
         → HandedOver sizes i s at words logs (record { taken = taken; behind = at + length message }) (put_part sizes.replica_words i b words)
     unfolding delivered
     handed_over taken b done = record {
+      taken_is = rw (← here) (ap (λ (o : TakeOutcome). o.answer) done);
       outcome =
           let waiting : message ≡ waiting_part (suc (N_at sizes.cards sizes.counters sizes.log_bytes (state_of words logs) i s)) (part sizes.log_bytes logs s)
           = here ∙ sym h.stands.waits in

@@ -18,6 +18,7 @@ use Rattle.wire.specs.NumberLaws.{number_at_left}
 use Rattle.wire.specs.Claims.{front_reads}
 use Rattle.wire.specs.RoundTrips.{read_long}
 use Rattle.wire.specs.Told.{unless_0}
+use Rattle.chassis.proofs.LogWalkLaws.{length_there, length_missing}
 use Rattle.chassis_model.proofs.ListPartsLaws.{part_length}
 use Rattle.chassis_model.specs.Log.{waiting_part, end_of}
 use Rattle.chassis_model.proofs.LogLaws.{waiting_here, waiting_none, waiting_next}
@@ -29,14 +30,6 @@ use Rattle.chassis_model.proofs.PendingChecked.{Checked}
 use Rattle.lent.specs.declared.Replicas.{Replicas}
 use Rattle.lent.specs.Each.{below_fails}
 use Rattle.lent.specs.Lent.{lent_log, received, next_place, none_ahead, is_log_right, are_logs_right, numbered_length, Missing, Arrived, NextStop, Marked, Found, AllFound}
-
--- ---- a length that may be none
-
-pub length_there : (n front : ℕ) → Option.Some n ≡ unless_0 front → (n ≡ front) × (front ≡ 0 → ⊥)
-length_there n front is = by_place front 0 (λ e. let other = rw (eq-eqb front 0 e) at is in cc) (λ d. let same = rw (ne_eqb front 0 d) at is in (cc, d))
-
-length_missing : (front : ℕ) → Option.None ≡ unless_0 front → front ≡ 0
-length_missing front is = by_place front 0 (λ e. e) (λ d. let other = rw (ne_eqb front 0 d) at is in cc)
 
 -- ---- the messages of a log, one by one
 

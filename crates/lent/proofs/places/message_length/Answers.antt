@@ -7,8 +7,8 @@ use Rattle.wire.specs.MessageParts.{header_at}
 use Rattle.wire.specs.MessagePartsLaws.{header_read}
 use Rattle.wire.specs.declared.reader.Header.{Header}
 use Rattle.chassis_model.specs.Pending.{is_numbered}
-use Rattle.chassis.proofs.LogWalkLaws.{rest_is}
-use Rattle.lent.specs.PlacesLaws.{length_there, front_inside, numbered_some}
+use Rattle.chassis.proofs.LogWalkLaws.{length_there, rest_is}
+use Rattle.lent.specs.PlacesLaws.{front_inside, numbered_some}
 use Rattle.lent.proofs.places.message_length.Goals as goal
 
 -- the test on the header is the definition's
