@@ -1,5 +1,5 @@
 #!/bin/sh
-# The archive may ask the host for memcpy and its like, for the symbols that are given as arguments,
+# The archive may ask the host for memcpy and memset, for the symbols that are given as arguments,
 # and for nothing else, and it exports exactly the functions that include/yelansub.h declares.
 set -eu
 root=$(cd "$(dirname "$0")/.." && pwd)
@@ -11,7 +11,7 @@ nm "$archive" > "$work/all"
 awk 'NF == 3 && $2 ~ /^[A-TV-Z]$/ { print $3 }' "$work/all" | sort -u > "$work/defined"
 awk '$1 == "U" || $1 == "w" || $1 == "v" { print $2 }' "$work/all" | sort -u |
     comm -23 - "$work/defined" > "$work/needed"
-printf '%s\n' memcpy memset memmove memcmp bcmp _GLOBAL_OFFSET_TABLE_ "$@" > "$work/given"
+printf '%s\n' memcpy memset _GLOBAL_OFFSET_TABLE_ "$@" > "$work/given"
 bad=$(grep -v -x -F -f "$work/given" "$work/needed" || true)
 if [ -n "$bad" ]; then
     echo "the archive needs from the host:" $bad >&2

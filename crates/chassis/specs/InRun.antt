@@ -4,9 +4,14 @@ use Rattle.std.proofs.Common.{◌∙◌}
 use Rattle.chassis_model.specs.Run.{State, state_of, fresh_replicas}
 use Rattle.chassis.specs.declared.Sizes.{Sizes}
 use Rattle.chassis.specs.declared.stepping.Chassis.{Chassis}
+use Rattle.chassis.specs.StepCodeLaws.{StepReady}
 
 abbrev pub state_in : Chassis → State
 state_in chassis = state_of chassis.words.now chassis.logs.now
+
+-- that a run has reached it, with the chassis and the ledgers of the theory that it has reached
+abbrev pub Ready : Chassis → Type 0
+Ready chassis = StepReady chassis.sizes chassis.words.now chassis.logs.now chassis.places
 
 -- the sizes stay, and words and logs are the same references
 pub record Kept (chassis chassis' : Chassis) : Type 0 where

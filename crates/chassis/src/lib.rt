@@ -38,6 +38,7 @@ impl Sizes {
     }
 
     // Where the card's replica stands in the words.
+    // Ruled out: a part of another length (must-fail/half_a_replica).
     pub fn replica(self, card: usize) -> Range<usize>
         requires { (card < self.cards) × (self.cards * self.replica_words ≤ usize.MAX) }
         ensures { (result.start ≡ card * self.replica_words) × (result.end ≡ result.start + self.replica_words) × (result.end ≤ self.cards * self.replica_words) }

@@ -202,7 +202,7 @@ pub struct Chassis<'a> {
 }
 
 impl<'a> Chassis<'a> {
-    ghost use Rattle.chassis.specs.InRun.{state_in, Kept, Begun};
+    ghost use Rattle.chassis.specs.InRun.{state_in, Ready, Kept, Begun};
 
     // How a run begins: every replica is fresh, whatever the words were, and no link has had a message.
     pub fn fresh(sizes: Sizes, words: &'a mut [u64], logs: &'a mut [u8]) -> Chassis<'a>
@@ -224,6 +224,7 @@ impl<'a> Chassis<'a> {
     fn make(&mut self, making: Making, card: usize, counter: u64) -> Result<u64, Refusal>
         requires { (card < self.old.sizes.cards) × (counter < self.old.sizes.counters) }
         ensures kept { Kept self.old self.new }
+        ensures ready { Ready self.old → Ready self.new }
         ensures done { StepDone self.old.sizes (Action.Make making card counter) true (state_in self.old) (step_answer result) (state_in self.new) }
     {
         let own = link(card, card);
@@ -253,6 +254,7 @@ impl<'a> Chassis<'a> {
     fn deliver(&mut self, receiver: usize, sender: usize) -> Result<u64, Refusal>
         requires { IsLink self.old.sizes.cards receiver sender }
         ensures kept { Kept self.old self.new }
+        ensures ready { Ready self.old → Ready self.new }
         ensures done { StepDone self.old.sizes (Action.Deliver receiver sender) true (state_in self.old) (step_answer result) (state_in self.new) }
     {
         if !self.does_one_wait(receiver, sender) {
@@ -277,6 +279,7 @@ impl<'a> Chassis<'a> {
     // One step, whatever its numbers: the value that it reads, 0 where it reads none.
     fn step(&mut self, s: Step) -> Result<u64, Refusal>
         ensures kept { Kept self.old self.new }
+        ensures ready { Ready self.old → Ready self.new }
         ensures done { StepDone self.old.sizes (action_of s) (amount_fits s) (state_in self.old) (step_answer result) (state_in self.new) }
     {
         let fits = does_amount_fit(s);
@@ -296,13 +299,17 @@ impl<'a> Chassis<'a> {
         }
     }
 
-    // Step i of a run, with its answer in its words.
-    pub fn answer_step(&mut self, s: Step, i: usize, answers: &mut [u64])
+    // Step i of a run, with its answer in its words. Returns the next step's number.
+    // Ruled out: a step passed over (must-fail/steps_passed_over), and a number that is not the next step's (must-fail/next_step_after_next).
+    pub fn answer_step(&mut self, s: Step, i: usize, answers: &mut [u64]) -> usize
         requires { i * answer_length + answer_length ≤ length answers.old }
+        ensures next { result ≡ i + 1 }
         ensures kept { Kept self.old self.new }
+        ensures ready { Ready self.old → Ready self.new }
         ensures done { StepAnswered self.old.sizes s i (state_in self.old) answers.old (state_in self.new) answers.new }
     {
         let answer = self.step(s).into();
         lay(answer, i, answers);
+        i + 1
     }
 }

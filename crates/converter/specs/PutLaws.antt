@@ -1,10 +1,11 @@
 -- LAWS. The messages of a log, one after the other, in another version: what is written of each, and of all.
-use Rattle.std.specs.Prelude.{ℕ, ◌+◌, ◌-◌, ◌*◌, ◌≤◌, ◌<◌, ◌≡◌, refl, true, false, length, take}
+use Rattle.std.specs.Prelude.{ℕ, suc, ◌+◌, ◌-◌, ◌*◌, ◌≤◌, ◌<◌, ◌≡◌, refl, true, false, length, get_or, set, take}
 use Rattle.std.proofs.Math.Path.{sym}
-use Rattle.std.proofs.Common.{ap, ◌∙◌, arith, length-append, length-drop, take-append-drop, take_at, drop_at, drop-drop, take-add, length-take-le, eq-eqb}
+use Rattle.std.proofs.Common.{ap, ◌∙◌, zero-add, arith, length-append, length-drop, take-append-drop, take_at, drop_at, drop-drop, take-add, length-take-le, eq-eqb}
 use mathlib.Core.List.{List, ◌++◌, append_assoc, append-nil}
 use Rattle.std.proofs.Math.ListN.{drop}
 use Rattle.std.proofs.lemmas.List.Edits.{sets}
+use Rattle.std.proofs.Math.Seq.{paste-suc}
 use Rattle.std.proofs.lemmas.List.{drop-append-le, nil_from_length}
 use Rattle.protocol.proofs.Cases.{by_test}
 use Rattle.protocol.proofs.StoredLists.{sets_append, sets_front}
@@ -26,6 +27,12 @@ abbrev pub first_moved : (from to : ℕ) → List ℕ → List ℕ
 first_moved from to s = moved to (take (front_length from s) s)
 
 -- ---- bytes copied
+
+-- one more
+pub copy_next : (bytes out : List ℕ) (i : ℕ) → i < length bytes → i < length out → set (take i bytes ++ drop i out) i (get_or bytes i 0) ≡ take (suc i) bytes ++ drop (suc i) out
+copy_next bytes out i below room =
+    let turn = paste-suc out 0 bytes i 0 (omega arith) below in
+    simp zero-add at turn
 
 -- eight more, as a number
 pub eights_next : (bytes out : List ℕ) (from i : ℕ) → Bytes bytes → from + hyper_width * i + hyper_width ≤ length bytes

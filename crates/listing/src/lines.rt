@@ -2,8 +2,7 @@
 ghost use Rattle.std.specs.Prelude.{◌≡◌, ◌+◌, ◌*◌, ◌≤◌, ◌<◌, length};
 ghost use Rattle.replica_model.specs.Layout.{replica_length};
 ghost use Rattle.replica_model.specs.Calls.{read_on};
-ghost use Rattle.text.specs.Put.{Put};
-ghost use Rattle.text.specs.OutputLaws.{SameBytes};
+ghost use Rattle.text.specs.Put.{Put, SameBytes};
 ghost use Rattle.listing.specs.Listing.{quiet, line, card_lines, lines, most_listed_cards, most_listed_counters};
 ghost use Rattle.listing.specs.Sizes.{line_bytes, card_bytes, Writable};
 

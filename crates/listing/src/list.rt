@@ -2,8 +2,7 @@
 ghost use Rattle.std.specs.Prelude.{◌≡◌, ℕ, ◌+◌, ◌*◌, ◌≤◌, true, false, length, take, replicate, MatchOption};
 ghost use Rattle.wire.specs.Message.{over};
 ghost use Rattle.replica_model.specs.Layout.{replica_length};
-ghost use Rattle.text.specs.Put.{Put};
-ghost use Rattle.text.specs.OutputLaws.{SameBytes};
+ghost use Rattle.text.specs.Put.{Put, SameBytes};
 ghost use Rattle.listing.specs.Listing.{given_cards, given_counters, given_steps, input_right, run_words, run_listing, listing_of};
 ghost use Rattle.listing.specs.Sizes.{listing_bytes, Listable};
 

@@ -1,6 +1,6 @@
 -- LAWS. What the calls that make a message share: the checks before a message is made, as one number, the outcome of a message that is made, whatever it says, and its header;
 -- and what a clear sends.
-use Rattle.std.specs.Prelude.{ℕ, ◌≤◌, ◌<◌, ◌≡◌, refl, Bool, false, List, [], ◌∷◌, length, leb}
+use Rattle.std.specs.Prelude.{ℕ, ◌≤◌, ◌<◌, ◌≡◌, ◌≢◌, refl, Bool, false, List, [], ◌∷◌, length, leb}
 use Rattle.std.proofs.Common.{sym, ◌∙◌, length-append, le-leb, ne_eqb}
 use Rattle.std.proofs.Math.Path.{ap}
 use Rattle.std.proofs.Math.Bool.{true}
@@ -10,7 +10,6 @@ use Rattle.protocol.specs.Limits.{most_amount, bad_row, short_output, bad_amount
 use Rattle.protocol.specs.Refusals.{number_of}
 use Rattle.protocol.specs.declared.Refusal.{Refusal}
 use Rattle.protocol.specs.Checks.{Check, or_else, checked, first_failing}
-use Rattle.protocol.proofs.RefusalLaws.{refusal_some}
 use Rattle.protocol.proofs.ChecksLaws.{first_refuses, first_passes, all_accepts, checked_append}
 use Rattle.protocol.specs.Chassis.{Message, clearing, clear_message, present_entries}
 use Rattle.protocol.proofs.StoreLaws.{shown}
@@ -65,16 +64,16 @@ module _ (b : List ℕ) (q : ℕ) (asked : Bool) (w : ℕ) where
     pub row_found : asked ≡ true → (n : ℕ) → n ≡ first_failing (row_checks b p w) → n ≡ first_failing before
     row_found inside n found = rw (← decided, inside) (rw row.1 at found)
 
-  pub sends : 0 ≡ first_failing before → Sending b q w
-  sends none = (sending_facts b q asked w (first_passes before refl (sym none))).0
+  pub sends : 0 ≡ first_failing before → Sending b q w × (asked ≡ true)
+  sends none = sending_facts b q asked w (first_passes before refl (sym none))
 
   module _ (out : List ℕ) (m : Message) where
     parts : send_with format_2 b q asked w out m ≡ checked (λ n. not_sent n b out) before (with_room b out m)
     unfolding send_with
     parts = checked_append (λ n. not_sent n b out) before (room_check out m) (sent_with format_2 b out m)
 
-    pub send_refused : (x : Refusal) → number_of x ≡ first_failing before → not_sent (number_of x) b out ≡ send_with format_2 b q asked w out m
-    send_refused x found = rw found (first_refuses (λ n. not_sent n b out) (with_room b out m) before (λ none. refusal_some x (found ∙ none)) ∙ sym parts)
+    pub send_refused : (n : ℕ) → n ≢ 0 → n ≡ first_failing before → not_sent n b out ≡ send_with format_2 b q asked w out m
+    send_refused n some found = rw found (first_refuses (λ x. not_sent x b out) (with_room b out m) before (λ none. some (found ∙ none)) ∙ sym parts)
 
     pub send_passed : 0 ≡ first_failing before → with_room b out m ≡ send_with format_2 b q asked w out m
     send_passed none = sym (parts ∙ all_accepts (λ n. not_sent n b out) (with_room b out m) before (first_passes before refl (sym none)))
@@ -85,9 +84,9 @@ module _ (b : List ℕ) (q : ℕ) (out : List ℕ) where
   abbrev before_clear : List Check
   before_clear = making_checks b q true 0
 
-  pub read_and_clear_refused : (x : Refusal) → number_of x ≡ first_failing before_clear → with_value 0 (not_sent (number_of x) b out) ≡ read_and_clear_on b q out
+  pub read_and_clear_refused : (n : ℕ) → n ≢ 0 → n ≡ first_failing before_clear → with_value 0 (not_sent n b out) ≡ read_and_clear_on b q out
   unfolding read_and_clear_on clear_on
-  read_and_clear_refused x found = rw (ne_eqb (number_of x) 0 (refusal_some x)) at (ap (with_value_read b q) (send_refused b q true 0 out (clear_of b q) x found))
+  read_and_clear_refused n some found = rw (ne_eqb n 0 some) at (ap (with_value_read b q) (send_refused b q true 0 out (clear_of b q) n some found))
 
   pub read_and_clear_passed : 0 ≡ first_failing before_clear → with_value_read b q (with_room b out (clear_of b q)) ≡ read_and_clear_on b q out
   unfolding read_and_clear_on clear_on

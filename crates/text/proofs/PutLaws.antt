@@ -1,6 +1,6 @@
 -- LAWS. Text stored in stretches side by side, byte by byte, as a number's digits, and at the front.
 use Rattle.std.specs.Prelude.{ℕ, zero, suc, ◌+◌, ◌-◌, ◌*◌, ◌^◌, ◌≤◌, ◌<◌, ◌≡◌, refl, true, List, [], ◌++◌, length, set, take, drop}
-use Rattle.std.proofs.Common.{sym, ap, ◌∙◌, mul-suc, not-suc-le-zero, add-one, sub-one, zero-add, arith, append_assoc, append-nil, length-append, length-drop, length-take-le, drop-drop}
+use Rattle.std.proofs.Common.{sym, ap, ◌∙◌, mul-suc, not-suc-le-zero, add-one, sub-one, arith, append_assoc, append-nil, length-append, length-drop, length-take-le, drop-drop}
 use Rattle.std.proofs.lemmas.List.{drop_all}
 use Rattle.std.proofs.lemmas.List.Edits.{sets, sets-eq}
 use Rattle.std.proofs.lemmas.Slice.{put_mid-paste, between_to_end}
@@ -71,12 +71,13 @@ put_digit before at (suc n) d y some small below =
     rw (sub-one, add-one at, fixed_first n d y small rest)
 
 -- a number's digits, stored as the last ones
-pub put_digits_of : (before after : List ℕ) (x count : ℕ) → Counted x count → count ≤ most_digits → after ≡ sets before 0 (fixed count x) → Put most_digits before 0 (decimal x) after count
-put_digits_of before after x zero c few stored = absurd (not-suc-le-zero c.some)
-put_digits_of before after x (suc n) c few stored =
+pub put_digits_of : (before after : List ℕ) (at x count end : ℕ) → Counted x count → count ≤ most_digits → after ≡ sets before at (fixed count x) → end ≡ at + count
+    → Put most_digits before at (decimal x) after end
+put_digits_of before after at x zero end c few stored next = absurd (not-suc-le-zero c.some)
+put_digits_of before after at x (suc n) end c few stored next =
     let is = digits_fixed word_digits n x (omega arith) c in record {
       stored = stored ∙ rw is;
-      next = rw (is, fixed_length, zero-add);
+      next = next ∙ rw (is, fixed_length);
       short = omega arith;
     }
 

@@ -1,5 +1,4 @@
 pub mod Decimal
 pub mod Put
-pub mod OutputLaws
 pub mod DecimalLaws
 pub mod Powers

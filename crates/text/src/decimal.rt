@@ -127,10 +127,9 @@ fn put_by(powers: &[u64], x: u64, out: &mut [u8]) -> usize
     count
 }
 
-// Writes a number to the front of `out`, and returns how many digits it has. Ruled out: a zero in front (must-fail/leading_zero), a digit too few
-// (must-fail/power_of_ten_cut), one digit in every place (must-fail/one_digit_repeated), another multiple subtracted (must-fail/wrong_multiple), a table
-// with a wrong entry (must-fail/wrong_power).
-pub fn put_decimal(x: u64, out: &mut [u8]) -> usize
+// Writes a number to the front of `out`, and returns how many digits it has.
+// Ruled out: a table with a wrong entry (must-fail/wrong_power).
+pub(crate) fn put_decimal(x: u64, out: &mut [u8]) -> usize
     requires { (x < 10 ^ most_digits) × (most_digits ≤ length out.old) }
     ensures { Put most_digits out.old 0 (decimal x) out.new result }
 {

@@ -8,8 +8,7 @@ mod decimal;
 
 ghost use Rattle.std.specs.Prelude.{◌++◌, ◌+◌, ◌^◌, ◌≤◌, ◌<◌, length};
 ghost use Rattle.text.specs.Decimal.{decimal};
-ghost use Rattle.text.specs.Put.{most_digits, Put};
-ghost use Rattle.text.specs.OutputLaws.{SameBytes};
+ghost use Rattle.text.specs.Put.{most_digits, Put, SameBytes};
 
 // The most digits of a number that is written: "every number below 10^16".
 pub const MOST_DIGITS: usize = 16;
@@ -33,7 +32,8 @@ impl Output<'_> {
         self.len = end;
     }
 
-    // A number and the text behind it.
+    // A number and the text behind it. Ruled out: a zero in front (must-fail/leading_zero), a digit too few (must-fail/power_of_ten_cut), one digit in every
+    // place (must-fail/one_digit_repeated), another multiple subtracted (must-fail/wrong_multiple), the text behind it left out (must-fail/text_behind_left_out).
     pub fn put_field(&mut self, x: u64, behind: &[u8])
         requires { (x < 10 ^ most_digits) × (self.old.len + (most_digits + length behind.now) ≤ length self.old.bytes.now) }
         ensures put { Put (most_digits + length behind.now) self.old.bytes.now self.old.len (decimal x ++ behind.now) self.new.bytes.now self.new.len }

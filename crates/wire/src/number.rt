@@ -11,7 +11,8 @@ pub const INT_BYTES: usize = 4;
 pub const HYPER_BYTES: usize = 8;
 
 // An unsigned number of a width: u32 is the unsigned int, u64 the unsigned hyper.
-// Ruled out: the bytes in another order (must-fail/lowest_byte_first), a byte of the next number taken in, and a byte beside the number that changes.
+// Ruled out: the bytes in another order (must-fail/lowest_byte_first, hyper_lowest_byte_first, int_written_lowest_byte_first,
+// hyper_written_lowest_byte_first), a byte of the next number taken in, and a byte beside the number that changes.
 pub trait Unsigned: Copy {
     const BYTES: usize;
 

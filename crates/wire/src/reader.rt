@@ -44,7 +44,8 @@ impl<'a> Reader<'a> {
         number
     }
 
-    // Ruled out: a number read at the place of the one before it, and an unsigned hyper that moves the position by an unsigned int's width.
+    // Ruled out: a number read at the place of the one before it, and an unsigned hyper that moves the position by an unsigned int's width
+    // (must-fail/sequence_as_an_int).
     pub fn header(&mut self) -> Header
         requires { self.old.at + header_length ≤ length self.old.src.now }
         ensures { (result ≡ header_at self.old.src.now self.old.at) × (self.new.src ≡ self.old.src) × (self.new.at ≡ behind_header self.old.at) }
@@ -58,7 +59,7 @@ impl<'a> Reader<'a> {
         }
     }
 
-    // Ruled out: `start` before `p`, and `start` inside `p`.
+    // Ruled out: `start` before `p`, and `start` inside `p` (must-fail/start_inside_p).
     pub fn increment(&mut self) -> Increment
         requires { self.old.at + increment_body_length ≤ length self.old.src.now }
         ensures { (result ≡ increment_at self.old.src.now self.old.at) × (self.new.src ≡ self.old.src) × (self.new.at ≡ behind_increment self.old.at) }
@@ -70,7 +71,7 @@ impl<'a> Reader<'a> {
     }
 
     // The amount behind that; where the version has none, 0 and no bytes.
-    // Ruled out: an amount in version 1 (must-fail/amount_in_version_1), and `start` taken for the amount.
+    // Ruled out: an amount in version 1 (must-fail/amount_in_version_1, amount_1_in_version_1), and `start` taken for the amount.
     pub fn amount(&mut self, version: u32) -> u32
         requires { self.old.at + amount_length version ≤ length self.old.src.now }
         ensures { (result ≡ amount_in version self.old.src.now self.old.at) × (self.new.src ≡ self.old.src) × (self.new.at ≡ behind_amount version self.old.at) }
@@ -78,7 +79,7 @@ impl<'a> Reader<'a> {
         if has_amount(version) { self.next() } else { 0 }
     }
 
-    // Ruled out: `c` read at the place of `p`, and a number of the next entry.
+    // Ruled out: `c` read at the place of `p` (must-fail/c_at_the_place_of_p), and a number of the next entry.
     pub fn entry(&mut self) -> ClearEntry
         requires { self.old.at + entry_length ≤ length self.old.src.now }
         ensures { (result ≡ entry_at self.old.src.now self.old.at) × (self.new.src ≡ self.old.src) × (self.new.at ≡ behind_entry self.old.at) }

@@ -25,8 +25,8 @@ const EXPORTED: &str = "#[unsafe(no_mangle)]";
 const OF_EXPORTS: [&str; 3] = ["extern \"", "no_mangle", "export_name"];
 
 /// What requests speak of and no host calls, the listing and the digit writer: the crate, and how
-/// the function begins.
-const INTERNAL: [(&str, &str); 2] = [("listing", "pub fn list("), ("text", "pub fn put_decimal(")];
+/// the function or method begins.
+const INTERNAL: [(&str, &str); 2] = [("listing", "pub fn list("), ("text", "pub fn put_field(")];
 
 pub struct File {
     pub path: String,
@@ -299,7 +299,8 @@ impl Crates {
         if let Some(name) = bare.strip_prefix("struct ").or(bare.strip_prefix("enum ")) {
             return self.add(name.split([' ', '<']).next()?, Kind::Struct, false);
         }
-        let internal = |(of, begins): &(&str, &str)| krate == *of && line.starts_with(begins);
+        let internal =
+            |(of, begins): &(&str, &str)| krate == *of && line.trim_start().starts_with(begins);
         if line.starts_with(EXPORT) || INTERNAL.iter().any(internal) {
             return self.add(line.split('(').next()?.rsplit(' ').next()?, Kind::Contract, false);
         }
@@ -309,7 +310,7 @@ impl Crates {
                 item.members.extend(field.map(|field| field.0.to_string()));
                 Some(part)
             }
-            Some(item) if item.kind == Kind::Contract && line != "{" => Some(part),
+            Some(item) if item.kind == Kind::Contract && line.trim_start() != "{" => Some(part),
             _ => Some(Part::Nothing),
         }
     }

@@ -13,9 +13,9 @@ use crates::{is_comment, Crates, Item, Kind, Meaning};
 use std::collections::{BTreeMap, BTreeSet, VecDeque};
 use std::{env, path::Path, process::ExitCode};
 
-/// A record of the toolchain's libraries whose fields are used: a thing that is lent, what it holds
-/// and where that stands.
-const LENT: (&str, [&str; 2]) = ("Rattle.std.specs.Borrow.Bor", ["now", "ref_ptr"]);
+/// A record of the toolchain's libraries whose fields are used: a thing that is lent, what it holds,
+/// where that stands and which loan it is.
+const LENT: (&str, [&str; 3]) = ("Rattle.std.specs.Borrow.Bor", ["now", "ref_ptr", "ghost_name"]);
 
 /// How an item is reached.
 struct Reached {

@@ -16,7 +16,7 @@ const OF_CONTRACTS: &str = "requires ensures result";
 /// What a contract says of a parameter: what a thing that is lent holds, and what was passed.
 const OF_PARAMETERS: &str = "now old new entry";
 
-const OF_STRUCTS: &str = "u8 u16 u32 u64 usize bool";
+const OF_STRUCTS: &str = "u8 u16 u32 u64 usize bool mut";
 
 #[derive(Default)]
 pub struct Mentions {
@@ -51,7 +51,7 @@ pub fn mentions(crates: &Crates, item: &Item, whole: bool) -> Mentions {
         let (text, line) = (token.text.as_str(), token.line);
         let of_language = match item.kind {
             Kind::Contract => is_one_of(LANGUAGE, text) || is_one_of(OF_CONTRACTS, text),
-            Kind::Struct => is_one_of(OF_STRUCTS, text),
+            Kind::Struct => is_one_of(OF_STRUCTS, text) || text.starts_with('\''),
             _ => is_one_of(LANGUAGE, text),
         };
         if of_language || is_number(text) {

@@ -1,7 +1,6 @@
 -- After n turns the lines of the first n counters are stored.
 use Rattle.std.proofs.Common.{◌*◌}
-use Rattle.text.specs.Put.{Put}
-use Rattle.text.specs.OutputLaws.{SameBytes}
+use Rattle.text.specs.Put.{Put, SameBytes}
 use Rattle.listing.specs.Listing.{card_lines}
 use Rattle.listing.specs.Sizes.{line_bytes}
 use Rattle.listing.proofs.lines.put_card.Given as goal

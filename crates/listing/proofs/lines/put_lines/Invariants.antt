@@ -2,8 +2,7 @@
 use Rattle.std.proofs.Common.{◌≡◌, ◌*◌, ◌≤◌, drop}
 use Rattle.std.specs.Iterator.Adapters.{enumerate_source, enumerate_count}
 use Rattle.std.specs.Slice.Iter.{chunks_exact_rest, chunks_exact_size}
-use Rattle.text.specs.Put.{Put}
-use Rattle.text.specs.OutputLaws.{SameBytes}
+use Rattle.text.specs.Put.{Put, SameBytes}
 use Rattle.listing.specs.Listing.{lines}
 use Rattle.listing.specs.Sizes.{card_bytes}
 use Rattle.listing.proofs.lines.put_lines.Given as goal

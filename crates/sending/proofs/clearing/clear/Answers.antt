@@ -3,6 +3,7 @@ use Rattle.std.proofs.Common.{◌≡◌, ℕ, List, Bool, true, length, leb, ref
 use Rattle.std.proofs.lemmas.Result.{err_from_is_err_and}
 use borrow.Author.Tests.{leb-true, leb-false}
 use Rattle.protocol.specs.Chassis.{Message, present_entries}
+use Rattle.protocol.proofs.RefusalLaws.{refusal_some}
 use Rattle.wire.specs.Message.{clear_length}
 use Rattle.replica_model.specs.Layout.{cards, entry_of}
 use Rattle.replica_model.specs.Format.{size_of}
@@ -19,13 +20,13 @@ pub returns-in_err-row : goal.returns-in_err-row
 returns-in_err-row c =
     let x = c.in_err-row.field-0.0 in
     let p = err_from_is_err_and c.from_residual.result c.from_residual.ensures.1 in
-    rw (p.1, p.2) (read_and_clear_refused _ _ c.args.out.now x (counter_found _ _ true 0 x c.in_err-row.ensures.checked))
+    rw (p.1, p.2) (read_and_clear_refused _ _ c.args.out.now _ (refusal_some x) (counter_found _ _ true 0 x c.in_err-row.ensures.checked))
 
 pub returns-in_err-check_row : goal.returns-in_err-check_row
 returns-in_err-check_row c =
     let x = c.in_err-check_row.field-0.0 in
     let p = err_from_is_err_and c.from_residual-in_err-check_row.result c.from_residual-in_err-check_row.ensures.1 in
-    rw (p.1, p.2) (read_and_clear_refused _ _ c.args.out.now x (row_found _ _ true 0 _ _ c.in_ok-row.ensures.row refl _ c.in_err-check_row.ensures))
+    rw (p.1, p.2) (read_and_clear_refused _ _ c.args.out.now _ (refusal_some x) (row_found _ _ true 0 _ _ c.in_ok-row.ensures.row refl _ c.in_err-check_row.ensures))
 
 pub has_room-requires : goal.has_room-requires
 has_room-requires c = c.in_ok-row.ensures.row.0
@@ -46,7 +47,7 @@ make-requires c =
     let row = c.in_ok-row.ensures.row in
     rw row.1 (
       row.0.first,
-      sends b q true 0 (row_found _ _ true 0 _ _ row refl 0 c.in_ok-check_row.ensures),
+      (sends b q true 0 (row_found _ _ true 0 _ _ row refl 0 c.in_ok-check_row.ensures)).0,
       leb-true _ _ (roomy b c.args.out.now _ _ q _ row.0.first row.1 c.if-not-has_room.ensures),
     )
 

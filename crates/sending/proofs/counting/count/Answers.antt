@@ -2,6 +2,7 @@
 use Rattle.std.proofs.Common.{sym, ap, ◌∙◌}
 use Rattle.std.proofs.lemmas.Result.{err_from_is_err_and}
 use Rattle.protocol.specs.declared.Refusal.TheVariants.{BadAmount}
+use Rattle.protocol.proofs.RefusalLaws.{refusal_some}
 use Rattle.replica_model.specs.Calls.{with_value, count_of, count_on}
 use Rattle.replica_model.proofs.CallsLaws.{count_size}
 use Rattle.sending.specs.SendLaws.{amount_range, sends, counter_found, amount_found, row_found, send_refused, send_passed, too_short, has_room}
@@ -13,13 +14,13 @@ returns-in_err-row c =
     let x = c.in_err-row.field-0.0 in
     let p = err_from_is_err_and c.from_residual.result c.from_residual.ensures.1 in
     let m = count_of c.args.words.now c.args.counter c.args.amount in
-    rw (p.1, p.2) (ap (with_value 0) (send_refused _ _ _ _ c.args.out.now m x (counter_found _ _ _ c.args.amount x c.in_err-row.ensures.checked)))
+    rw (p.1, p.2) (ap (with_value 0) (send_refused _ _ _ _ c.args.out.now m _ (refusal_some x) (counter_found _ _ _ c.args.amount x c.in_err-row.ensures.checked)))
 
 pub returns-then-not-is_amount : goal.returns-then-not-is_amount
 unfolding count_on
 returns-then-not-is_amount c =
     let m = count_of c.args.words.now c.args.counter c.args.amount in
-    ap (with_value 0) (send_refused _ _ _ _ c.args.out.now m BadAmount (amount_found _ _ _ c.args.amount _ _ c.in_ok-row.ensures.row (sym c.if-not-is_amount.ensures)))
+    ap (with_value 0) (send_refused _ _ _ _ c.args.out.now m _ (refusal_some BadAmount) (amount_found _ _ _ c.args.amount _ _ c.in_ok-row.ensures.row (sym c.if-not-is_amount.ensures)))
 
 pub check_row-requires : goal.check_row-requires
 check_row-requires c = (c.in_ok-row.ensures.row.0, (amount_range _ (sym c.if-not-is_amount.ensures)).1)
@@ -31,7 +32,7 @@ returns-in_err-check_row c =
     let p = err_from_is_err_and c.from_residual-in_err-check_row.result c.from_residual-in_err-check_row.ensures.1 in
     let m = count_of c.args.words.now c.args.counter c.args.amount in
     let found = row_found _ _ _ c.args.amount _ _ c.in_ok-row.ensures.row (sym c.if-not-is_amount.ensures) _ c.in_err-check_row.ensures in
-    rw (p.1, p.2) (ap (with_value 0) (send_refused _ _ _ _ c.args.out.now m x found))
+    rw (p.1, p.2) (ap (with_value 0) (send_refused _ _ _ _ c.args.out.now m _ (refusal_some x) found))
 
 pub returns-then-out-lt-INCREMENT_BYTES : goal.returns-then-out-lt-INCREMENT_BYTES
 unfolding count_on
@@ -44,7 +45,7 @@ pub make-sequence-requires : goal.make-sequence-requires
 make-sequence-requires c =
     let row = c.in_ok-row.ensures.row in
     let inside = sym c.if-not-is_amount.ensures in
-    (row.0.first, rw row.1 (sends _ _ _ _ (row_found _ _ _ c.args.amount _ _ row inside 0 c.in_ok-check_row.ensures)), inside, c.if-out-lt-INCREMENT_BYTES.false)
+    (row.0.first, rw row.1 (sends _ _ _ _ (row_found _ _ _ c.args.amount _ _ row inside 0 c.in_ok-check_row.ensures)).0, inside, c.if-out-lt-INCREMENT_BYTES.false)
 
 pub returns : goal.returns
 unfolding count_on

@@ -13,4 +13,4 @@ pub returns : goal.returns
 returns c =
     let counted = c.digit_count_of-count.ensures in
     let powers = powers_of c.args.powers.now c.digit_count_of-count.result c.requires.0 counted.0.some counted.1 in
-    put_digits_of _ _ _ _ counted.0 counted.1 (rw powers.1 at c.put_digits.ensures)
+    put_digits_of _ _ 0 _ _ _ counted.0 counted.1 (rw powers.1 at c.put_digits.ensures) (omega arith)

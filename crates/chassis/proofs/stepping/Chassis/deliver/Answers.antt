@@ -24,6 +24,20 @@ invariant_of-self c =
           c.hand_over-handed.result _ (rw c.link-which.ensures.0 at c.hand_over-handed.ensures)));
     }
 
+pub returns-clause-ready : goal.returns-clause-ready
+returns-clause-ready c =
+    λ g.
+    rw c.link-which.ensures.0
+    (delivered_ready _ _ _ _ g _ _ c.requires (sym c.if-not-does_one_wait.ensures)
+    c.hand_over-handed.result _ (rw c.link-which.ensures.0 at c.hand_over-handed.ensures))
+
+pub returns-in_err-handed-clause-ready : goal.returns-in_err-handed-clause-ready
+returns-in_err-handed-clause-ready c =
+    λ g.
+    rw c.link-which.ensures.0
+    (delivered_ready _ _ _ _ g _ _ c.requires (sym c.if-not-does_one_wait.ensures)
+    c.hand_over-handed.result _ (rw c.link-which.ensures.0 at c.hand_over-handed.ensures))
+
 pub returns-clause-done : goal.returns-clause-done
 returns-clause-done c =
     ∥∥₁_elim c.args.self.now.ready (stepped_prop _ _)

@@ -66,6 +66,33 @@ invariant_of-self-2 c =
           (made_ready _ _ _ _ g c.args.making c.args.card c.args.counter _ _ _ _ c.requires.0 c.requires.1 refl sent));
     }
 
+pub returns-clause-ready : goal.returns-clause-ready
+returns-clause-ready c =
+    let chassis = c.args.self.now in
+    let replica = part_read chassis.sizes.replica_words c.args.card chassis.words.now _ _ c.replica.ensures.0 c.replica.ensures.1 in
+    let log = part_read chassis.sizes.log_bytes c.args.card chassis.logs.now _ _ c.log.ensures.0 c.log.ensures.1 in
+    let sent = rw (replica, log, c.link-own.ensures.0) at c.in_ok-made.ensures in
+    λ g.
+    rw (
+      part_written chassis.sizes.replica_words c.args.card chassis.words.now _ _ c.replica.ensures.0 c.replica.ensures.1 c.append.new.replica,
+      part_written chassis.sizes.log_bytes c.args.card chassis.logs.now _ _ c.log.ensures.0 c.log.ensures.1 c.append.new.log,
+      c.link-own.ensures.0,
+    )
+    (made_ready _ _ _ _ g c.args.making c.args.card c.args.counter _ _ _ _ c.requires.0 c.requires.1 refl sent)
+
+pub returns-in_err-made-clause-ready : goal.returns-in_err-made-clause-ready
+returns-in_err-made-clause-ready c =
+    let chassis = c.args.self.now in
+    let replica = part_read chassis.sizes.replica_words c.args.card chassis.words.now _ _ c.replica.ensures.0 c.replica.ensures.1 in
+    let log = part_read chassis.sizes.log_bytes c.args.card chassis.logs.now _ _ c.log.ensures.0 c.log.ensures.1 in
+    let sent = rw (replica, log, c.link-own.ensures.0) at c.in_err-made.ensures in
+    λ g.
+    rw (
+      part_written chassis.sizes.replica_words c.args.card chassis.words.now _ _ c.replica.ensures.0 c.replica.ensures.1 c.append.new.replica,
+      part_written chassis.sizes.log_bytes c.args.card chassis.logs.now _ _ c.log.ensures.0 c.log.ensures.1 c.append.new.log,
+    )
+    (refused_ready _ _ _ _ g c.args.making c.args.card c.args.counter _ _ _ _ c.requires.0 c.requires.1 refl sent refl)
+
 pub returns-clause-done : goal.returns-clause-done
 returns-clause-done c =
     let chassis = c.args.self.now in
