@@ -7,7 +7,7 @@ use mathlib.Core.List.{List, [], ◌∷◌, ◌++◌, map-append, append_assoc, 
 use Rattle.std.proofs.lemmas.List.{length-map}
 use Rattle.protocol.proofs.RefusalLaws.{refusal_some}
 use Rattle.protocol.specs.Limits.{most_cards}
-use Rattle.protocol.proofs.Cases.{by_le, by_place}
+use Rattle.protocol.proofs.Cases.{by_test, by_le, by_place}
 use Rattle.protocol.specs.declared.Refusal.{Refusal}
 use Rattle.protocol.specs.Refusals.{number_of, number_in}
 use Rattle.protocol.specs.RoundRobin.{Link, link, Orderly}
@@ -153,14 +153,14 @@ module _ (sizes : Sizes) (which : ℕ) (words logs places : List ℕ) (ready : P
       refused : eqb (delivered r k L i s st).answer.number 0 ≡ false
       refused = rw number_then (err_number handed.taken err)
 
-      pub declined_ready : PumpReady sizes words' logs places
+      declined_ready : PumpReady sizes words' logs places
       declined_ready =
           let same : state_of words' logs ≡ st = sym state_then ∙ (checked_orderly r k L).declined_stays i s st h.is_link ready.checked some_wait refused in
           let words_same : words' ≡ words = ap (λ state. state.words) same in
           rw words_same ready
 
-      pub turn_declined : TurnDone sizes which st Declined (state_of words' logs)
-      turn_declined = record { state_is = state_then; made_is = rw refused; open_is = rw refused }
+      pub turn_declined : TurnDone sizes which st Declined (state_of words' logs) × PumpReady sizes words' logs places
+      turn_declined = (record { state_is = state_then; made_is = rw refused; open_is = rw refused }, declined_ready)
 
     module _ (fine : is_err handed.taken ≡ false) where
       taken : eqb (delivered r k L i s st).answer.number 0 ≡ true
@@ -185,19 +185,24 @@ module _ (sizes : Sizes) (which : ℕ) (words logs places : List ℕ) (ready : P
             rw (done.behind, place_is) (rw (number_back which) at moved);
       }
 
-      pub turn_open : one_waits sizes (state_of words' logs) i s ≡ true → TurnDone sizes which st Open (state_of words' logs)
+      turn_open : one_waits sizes (state_of words' logs) i s ≡ true → TurnDone sizes which st Open (state_of words' logs)
       turn_open more = record {
         state_is = state_then;
         made_is = sym taken;
         open_is = rw (taken, waits_test (had sizes (state_of words' logs) s s) (had sizes (state_of words' logs) i s), more);
       }
 
-      pub turn_done : one_waits sizes (state_of words' logs) i s ≡ false → TurnDone sizes which st Done (state_of words' logs)
+      turn_done : one_waits sizes (state_of words' logs) i s ≡ false → TurnDone sizes which st Done (state_of words' logs)
       turn_done more = record {
         state_is = state_then;
         made_is = sym taken;
         open_is = rw (taken, waits_test (had sizes (state_of words' logs) s s) (had sizes (state_of words' logs) i s), more);
       }
+
+      pub turn_taken : (turn : Turn) → turn ≡ cond (one_waits sizes (state_of words' logs) i s) Open Done
+          → TurnDone sizes which st turn (state_of words' logs) × PumpReady sizes words' logs (set places which handed.behind)
+      turn_taken turn is =
+          (rw is (by_test (one_waits sizes (state_of words' logs) i s) (λ t. rw t (turn_open t)) (λ f. rw f (turn_done f))), turn_ready)
 
 -- ---- a round
 
