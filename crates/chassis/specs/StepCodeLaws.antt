@@ -210,24 +210,30 @@ module _ (sizes : Sizes) (words logs places : List ℕ) (g : StepReady sizes wor
     unfolding appended
     answer_is = ap (λ o. o.answer) (rw (here, g.replica_is) at done)
 
-    pub made_did : StepDone sizes (Make m card counter) true st (record { number = sent.number; value = sent.value })
+    made_outcome : StepDone sizes (Make m card counter) true st (record { number = sent.number; value = sent.value })
         (state_of (put_part size card b words) (put_part L card log logs))
     unfolding made appended
-    made_did =
+    made_outcome =
         let now_done = rw (here, g.replica_is) at done in
         let outcome : ◌≡◌ {A = Stepped} (record { answer = record { number = sent.number; value = sent.value }; state = state_of (put_part size card b words) (put_part L card log logs) })
         (made r k L card (call_of m counter) st)
         = rw (answer_is, ap (λ o. o.words) now_done, ap (λ o. o.out) now_done, g.replica_is, free_place_is r k L st places g.reached card below) in
         outcome ∙ sym (performed_is r k L st (Make m card counter) true (lt-ltb card r below, (lt-ltb counter k there, (refl, tt))))
 
-    pub made_ready : StepReady sizes (put_part size card b words) (put_part L card log logs) (set places (link_place card card) (at + sent.length))
+    made_ready : StepReady sizes (put_part size card b words) (put_part L card log logs) (set places (link_place card card) (at + sent.length))
     made_ready = record {
       replica_is = g.replica_is;
       reached =
           subst (λ (s : State). Reached r k L s (set places (link_place card card) (at + sent.length)))
-          (sym (ap (λ o. o.state) (made_did ∙ performed_is r k L st (Make m card counter) true (lt-ltb card r below, (lt-ltb counter k there, (refl, tt))))))
+          (sym (ap (λ o. o.state) (made_outcome ∙ performed_is r k L st (Make m card counter) true (lt-ltb card r below, (lt-ltb counter k there, (refl, tt))))))
           (rw (answer_is, here) (made_reached r k L st places g.reached m card counter below));
     }
+
+    -- the step is done, and it has reached what it leaves
+    pub made_did : StepDone sizes (Make m card counter) true st (record { number = sent.number; value = sent.value })
+        (state_of (put_part size card b words) (put_part L card log logs))
+        × StepReady sizes (put_part size card b words) (put_part L card log logs) (set places (link_place card card) (at + sent.length))
+    made_did = (made_outcome, made_ready)
 
     -- a refusal moves no place
     pub refused_ready : sent.length ≡ 0 → StepReady sizes (put_part size card b words) (put_part L card log logs) places
@@ -258,10 +264,7 @@ module _ (sizes : Sizes) (words logs places : List ℕ) (g : StepReady sizes wor
     }
 
     module _ (handed : Handed) (b : List ℕ) (done : HandedOver sizes i s (get_or places (link_place i s) 0) words logs handed b) where
-      pub delivered_did : StepDone sizes (Deliver i s) true st (answered (number_in handed.taken)) (state_of b logs)
-      delivered_did = done.outcome ∙ sym (performed_is r k L st (Deliver i s) true (link_passes r k L st i s true refl is waits))
-
-      pub delivered_ready : StepReady sizes b logs (set places (link_place i s) handed.behind)
+      delivered_ready : StepReady sizes b logs (set places (link_place i s) handed.behind)
       delivered_ready = record {
         replica_is = g.replica_is;
         reached =
@@ -269,6 +272,10 @@ module _ (sizes : Sizes) (words logs places : List ℕ) (g : StepReady sizes wor
             (subst (λ (x : Stepped). Reached r k L x.state (set places (link_place i s) (get_or places (link_place i s) 0 + called_length version_2 (drop (get_or places (link_place i s) 0) (part L logs s)))))
             (sym done.outcome) (delivered_reached r k L st places g.reached i s is.0 is.1 is.2 waits));
       }
+
+      pub delivered_did : StepDone sizes (Deliver i s) true st (answered (number_in handed.taken)) (state_of b logs)
+          × StepReady sizes b logs (set places (link_place i s) handed.behind)
+      delivered_did = (done.outcome ∙ sym (performed_is r k L st (Deliver i s) true (link_passes r k L st i s true refl is waits)), delivered_ready)
 
 -- ---- take of the message that stands there
 

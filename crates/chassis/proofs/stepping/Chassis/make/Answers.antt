@@ -4,7 +4,7 @@ use Rattle.std.proofs.Common.{◌+◌, ◌≤◌, refl, arith, get_or}
 use Rattle.std.specs.Coded.{le_prop}
 use mathlib.Core.Logic.{∥∥₁_elim, ∥∥₁_map}
 use Rattle.std.proofs.lemmas.Result.{err_from_is_err_and}
-use Rattle.chassis.specs.StepCodeLaws.{logs_room, log_long, place_small, stepped_prop, made_did, made_ready, refused_ready, made_place}
+use Rattle.chassis.specs.StepCodeLaws.{logs_room, log_long, place_small, stepped_prop, made_did, refused_ready, made_place}
 use Rattle.chassis.proofs.PartLaws.{part_read, part_written}
 use Rattle.chassis.proofs.stepping.Chassis.make.Goals as goal
 
@@ -63,7 +63,7 @@ invariant_of-self-2 c =
             part_written chassis.sizes.log_bytes c.args.card chassis.logs.now _ _ c.log.ensures.0 c.log.ensures.1 c.append.new.log,
             c.link-own.ensures.0,
           )
-          (made_ready _ _ _ _ g c.args.making c.args.card c.args.counter _ _ _ _ c.requires.0 c.requires.1 refl sent));
+          (made_did _ _ _ _ g c.args.making c.args.card c.args.counter _ _ _ _ c.requires.0 c.requires.1 refl sent).1);
     }
 
 pub returns-clause-ready : goal.returns-clause-ready
@@ -78,7 +78,7 @@ returns-clause-ready c =
       part_written chassis.sizes.log_bytes c.args.card chassis.logs.now _ _ c.log.ensures.0 c.log.ensures.1 c.append.new.log,
       c.link-own.ensures.0,
     )
-    (made_ready _ _ _ _ g c.args.making c.args.card c.args.counter _ _ _ _ c.requires.0 c.requires.1 refl sent)
+    (made_did _ _ _ _ g c.args.making c.args.card c.args.counter _ _ _ _ c.requires.0 c.requires.1 refl sent).1
 
 pub returns-in_err-made-clause-ready : goal.returns-in_err-made-clause-ready
 returns-in_err-made-clause-ready c =
@@ -105,7 +105,7 @@ returns-clause-done c =
       part_written chassis.sizes.replica_words c.args.card chassis.words.now _ _ c.replica.ensures.0 c.replica.ensures.1 c.append.new.replica,
       part_written chassis.sizes.log_bytes c.args.card chassis.logs.now _ _ c.log.ensures.0 c.log.ensures.1 c.append.new.log,
     )
-    (made_did _ _ _ _ g c.args.making c.args.card c.args.counter _ _ _ _ c.requires.0 c.requires.1 refl sent))
+    (made_did _ _ _ _ g c.args.making c.args.card c.args.counter _ _ _ _ c.requires.0 c.requires.1 refl sent).0)
 
 pub returns-in_err-made-clause-done : goal.returns-in_err-made-clause-done
 returns-in_err-made-clause-done c =
@@ -122,4 +122,4 @@ returns-in_err-made-clause-done c =
       part_written chassis.sizes.replica_words c.args.card chassis.words.now _ _ c.replica.ensures.0 c.replica.ensures.1 c.append.new.replica,
       part_written chassis.sizes.log_bytes c.args.card chassis.logs.now _ _ c.log.ensures.0 c.log.ensures.1 c.append.new.log,
     )
-    (made_did _ _ _ _ g c.args.making c.args.card c.args.counter _ _ _ _ c.requires.0 c.requires.1 refl sent))
+    (made_did _ _ _ _ g c.args.making c.args.card c.args.counter _ _ _ _ c.requires.0 c.requires.1 refl sent).0)
